@@ -1,0 +1,13 @@
+pub mod Bounds
+pub mod Refusals
+pub mod Families
+pub mod Members
+pub mod Rules
+pub mod Settled
+pub mod Plans
+pub mod Settings
+pub mod Calls
+pub mod Ledgers
+pub mod Planners
+pub mod Statements
+pub mod Trials

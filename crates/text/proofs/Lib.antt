@@ -1,0 +1,3 @@
+pub mod Pairings
+pub mod Memberships
+pub mod Rows
