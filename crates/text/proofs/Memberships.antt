@@ -15,6 +15,7 @@ use Rattle.model.specs.Bounds.{most-members}
 use Rattle.model.specs.Members.{member-of, has-gate, gates-differ}
 use Rattle.model.specs.Rules.{Rule, total}
 use Rattle.model.specs.declared.rule.member.Member.{Member}
+use Rattle.text.specs.Tests.{within}
 use Rattle.text.specs.Payloads.{members-in, gates-below, members-of, quad-at, with-members, total-in}
 use Rattle.text.proofs.Pairings.{past, peel}
 
@@ -54,14 +55,17 @@ below-high n (x ∷ xs) m ys h = let i = below-high n xs m ys h in grind arith
 
 -- the ways out of the loop: there are too many, a gate is too high, or one stands twice
 pub too-many : (bytes : List ℕ) (n : ℕ) → most-members < length (members-in bytes) → None ≡ members-of bytes n
-too-many bytes n h = sym (cond-false _ _ _ (and-left _ _ (lt-leb _ _ h)))
+too-many bytes n h = sym (cond-false _ _ _ (and-left _ _ (and-right (leb 1 (length (members-in bytes))) _ (lt-leb _ _ h))))
+
+pub too-few : (bytes : List ℕ) (n : ℕ) → length (members-in bytes) < 1 → None ≡ members-of bytes n
+too-few bytes n h = sym (cond-false _ _ _ (and-left _ _ (and-left _ _ (lt-leb _ _ h))))
 
 pub too-high : (bytes : List ℕ) (n : ℕ) → gates-below n (members-in bytes) ≡ false → None ≡ members-of bytes n
 too-high bytes n e = sym (cond-false _ _ _ (and-right _ _ (and-left _ _ e)))
 
 pub twice : (bytes : List ℕ) (n : ℕ) → gates-differ (members-in bytes) ≡ false → None ≡ members-of bytes n
 twice bytes n e =
-    sym (cond-false _ (Some (members-in bytes)) _ (and-right (leb (length (members-in bytes)) most-members) _ (and-right (gates-below n (members-in bytes)) _ e)))
+    sym (cond-false _ (Some (members-in bytes)) _ (and-right (within 1 most-members (length (members-in bytes))) _ (and-right (gates-below n (members-in bytes)) _ e)))
 
 members-end : (xs : List ℕ) → length xs < 2 → members-in xs ≡ []
 members-end [] h = refl
@@ -69,12 +73,15 @@ members-end (a ∷ []) h = refl
 members-end (a ∷ (b ∷ xs)) h = absurd (omega arith)
 
 -- the end of the loop: those held are all
+pub are-all : (bytes : List ℕ) (held : List (ℕ × ℕ)) (rest : List ℕ) → held ++ members-in rest ≡ members-in bytes → length rest < 2 → held ≡ members-in bytes
+are-all bytes held rest e h = sym (append-nil held) ∙ (ap (λ (t : List (ℕ × ℕ)). held ++ t) (sym (members-end rest h)) ∙ e)
+
 pub all-held : (bytes : List ℕ) (n : ℕ) (held : List (ℕ × ℕ)) (rest : List ℕ) → held ++ members-in rest ≡ members-in bytes → length rest < 2
-    → length held ≤ most-members → gates-below n held ≡ true → gates-differ held ≡ true → Some held ≡ members-of bytes n
-all-held bytes n held rest e h few below differ =
-    let all : held ≡ members-in bytes = sym (append-nil held) ∙ (ap (λ (t : List (ℕ × ℕ)). held ++ t) (sym (members-end rest h)) ∙ e) in
-    subst (λ (ms : List (ℕ × ℕ)). Some held ≡ cond (leb (length ms) most-members && (gates-below n ms && gates-differ ms)) (Some ms) None) all
-    (sym (cond-true _ (Some held) _ (and-from _ _ (le-leb _ _ few) (and-from _ _ below differ))))
+    → 1 ≤ length held → length held ≤ most-members → gates-below n held ≡ true → gates-differ held ≡ true → Some held ≡ members-of bytes n
+all-held bytes n held rest e h some few below differ =
+    let all : held ≡ members-in bytes = are-all bytes held rest e h in
+    subst (λ (ms : List (ℕ × ℕ)). Some held ≡ cond (within 1 most-members (length ms) && (gates-below n ms && gates-differ ms)) (Some ms) None) all
+    (sym (cond-true _ (Some held) _ (and-from _ _ (and-from _ _ (le-leb _ _ some) (le-leb _ _ few)) (and-from _ _ below differ))))
 
 -- one member more at the end of those held
 pub held-push : (list : List Member) (count : ℕ) (m : Member) → count < length list

@@ -78,10 +78,11 @@ abbrev pub gates-below : ℕ → List (ℕ × ℕ) → Bool
 gates-below n [] = true
 gates-below n (m ∷ ms) = ltb (m .0) n && gates-below n ms
 
+-- one member at least, each of a gate below n, and none twice
 abbrev pub members-of : List ℕ → ℕ → Option (List (ℕ × ℕ))
 members-of bytes n =
     when
-    (leb (length (members-in bytes)) most-members && (gates-below n (members-in bytes) && gates-differ (members-in bytes)))
+    (within 1 most-members (length (members-in bytes)) && (gates-below n (members-in bytes) && gates-differ (members-in bytes)))
     (members-in bytes)
 
 -- a number of four bytes, the high one first

@@ -21,7 +21,7 @@ fn is_member(members: &[Member], gate: u8) -> bool
     false
 }
 
-/// Members, or `None` where one's gate is not below `gates` or stands twice.
+/// Members, or `None` where there is none, or where one's gate is not below `gates` or stands twice.
 pub(crate) fn read_members(pairs: &[u8], gates: usize) -> Option<Members>
     ensures { λ r. ⌜ mapped listed r ≡ members-of (now (pairs .entry)) gates ⌝ }
 {
@@ -38,6 +38,9 @@ pub(crate) fn read_members(pairs: &[u8], gates: usize) -> Option<Members>
         };
         count += 1;
         rest = tail;
+    }
+    if count < 1 {
+        return None;
     }
     Some(Members { count, list })
 }

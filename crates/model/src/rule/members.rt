@@ -9,11 +9,12 @@ ghost use Rattle.model.specs.Members.{member-of, gates-differ};
 use super::member::Member;
 use crate::bounds::MEMBERS;
 
-/// The first `count` of the list. No gate is a member twice.
+/// The first `count` of the list, one at least. No gate is a member twice.
 #[derive(Clone, Copy)]
 pub struct Members {
     pub count: usize,
     pub list: [Member; MEMBERS],
+    ghost some: { 1 ≤ count },
     ghost few: { count ≤ most-members },
     ghost differ: { gates-differ (map member-of (take count list)) ≡ true },
 }

@@ -2,16 +2,20 @@ use borrow.Author.Needs.{needs}
 use native.Mathlib.Omega.{arith}
 use mathlib.Core.Path.{_≡_, sym, ap, _∙_}
 use mathlib.Core.Bool.{false}
-use mathlib.Core.List.{map, _++_}
-use Prim.Native.Nat.{_≤_, _<_}
+use mathlib.Core.List.{List, map, _++_}
+use Prim.Native.Nat.{ℕ, _≤_, _<_}
 use native.Mathlib.Nat.{sub-zero}
 use lib.ListN.{length, take, getD, length-append, length-map}
 use lib.Seq.{length-take-le}
 use Rattle.model.specs.Members.{member-of, has-gate, gates-differ}
+use Rattle.model.specs.declared.rule.member.Member.{Member}
 use Rattle.text.specs.Payloads.{members-in, gates-below}
-use Rattle.text.proofs.Memberships.{members-peel, differ-push, differ-twice, below-push, below-high, too-many, too-high, twice, all-held, held-push, one-more}
+use Rattle.text.proofs.Memberships.{members-peel, differ-push, differ-twice, below-push, below-high, too-many, too-few, too-high, twice, are-all, all-held, held-push, one-more}
 use Rattle.text.proofs.members.read_members.Needs as need
 use Rattle.text.proofs.members.read_members.Needs.{then-count-ge-MEMBERS·by·then-count-ge-MEMBERS, then-count-ge-MEMBERS·by·else-count-ge-MEMBERS·then-from-gates, then-count-ge-MEMBERS·by·else-count-ge-MEMBERS·else-from-gates·then-is-member}
+
+held-length : (list : List Member) (count : ℕ) → count ≤ length list → length (map member-of (take count list)) ≡ count
+held-length list count h = length-map (take count list) member-of ∙ length-take-le count list h
 
 pub returns-then-count-ge-MEMBERS : need.returns-then-count-ge-MEMBERS
 returns-then-count-ge-MEMBERS c =
@@ -49,9 +53,14 @@ loop-rest-again c =
       search needs,
     )
 
+pub returns-then-count-lt1 : need.returns-then-count-lt1
+returns-then-count-lt1 c =
+    let k = held-length (c .loop-rest .list) (c .loop-rest .count) (omega arith) in
+    let e = ap length (are-all (c .args .pairs .now) (map member-of (take (c .loop-rest .count) (c .loop-rest .list))) (c .loop-rest .rest .now) (c .loop-rest .inv .0) (search needs)) in
+    too-few (c .args .pairs .now) (c .args .gates) (omega arith)
+
 pub returns : need.returns
 returns c =
-    let k : length (map member-of (take (c .loop-rest .count) (c .loop-rest .list))) ≡ c .loop-rest .count =
-    length-map (take (c .loop-rest .count) (c .loop-rest .list)) member-of ∙ length-take-le (c .loop-rest .count) (c .loop-rest .list) (omega arith) in
+    let k = held-length (c .loop-rest .list) (c .loop-rest .count) (omega arith) in
     all-held (c .args .pairs .now) (c .args .gates) (map member-of (take (c .loop-rest .count) (c .loop-rest .list))) (c .loop-rest .rest .now)
-    (c .loop-rest .inv .0) (search needs) (omega arith) (c .loop-rest .inv .1) (c .loop-rest .inv .2)
+    (c .loop-rest .inv .0) (search needs) (omega arith) (omega arith) (c .loop-rest .inv .1) (c .loop-rest .inv .2)

@@ -1,0 +1,3 @@
+pub mod Verdicts
+pub mod Behind
+pub mod Holding

@@ -1,0 +1,1 @@
+-- What the reading of a text means, with no word of how it is done.

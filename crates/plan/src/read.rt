@@ -1,0 +1,9 @@
+// The reading of a plan.
+use crate::Plan;
+
+/// A plan, and how many bytes of the text it took.
+#[derive(Clone, Copy)]
+pub struct Loaded {
+    pub plan: Plan,
+    pub read: usize,
+}
