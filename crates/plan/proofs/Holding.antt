@@ -106,11 +106,6 @@ module _ (d : Draft) (ps : List Field) (h : Holds d ps) (p : Field) where
       fault-is ps p false false false (h .some) (ap (λ (k : PlanKind). misplaced-by ps k (p .bytes)) e) (ap (λ (k : PlanKind). unfit-by (size-in ps) k (p .bytes)) e)
       (ap (λ (k : PlanKind). full-by k (length (rules-in ps))) e)
 
-  pub end-held : p .kind ≡ End → Holds d (ps ++ (p ∷ []))
-  end-held e =
-      quiet-held d ps h p d (λ g. ap (λ (k : PlanKind). lists-by k g (p .bytes)) e) refl refl refl refl refl
-      (h .rules ∙ sym (ap (λ (k : PlanKind). rules-in ps ++ rules-by k (p .bytes) (size-in ps .gates)) e ∙ append-nil (rules-in ps)))
-
   pub second-head : p .kind ≡ Head → fault ps p ≡ Some Misplaced
   second-head e = fault-is ps p true (unfit-by (size-in ps) (p .kind) (p .bytes)) (full-by (p .kind) (length (rules-in ps))) (h .some) (ap (λ (k : PlanKind). misplaced-by ps k (p .bytes)) e) refl refl
 

@@ -1,3 +1,4 @@
 pub mod Verdicts
 pub mod Behind
 pub mod Holding
+pub mod Readings

@@ -45,11 +45,11 @@ fault-is ps p m u f some a b c =
     ∙ (ap (λ (t : Bool). verdict m t (full-by (p .kind) (length (rules-in ps)))) b ∙ ap (verdict m u) c)
 
 -- a refused field leaves the draft as it was, with its fault
-pub refused-took : (d : Draft) (ps : List Field) (p : Field) {X : Type 0} (m : Bool) (x : Option X) (f : Bool) (e : Fault) (r : Result (Unit {0}) Fault)
+pub refused-took : (d : Draft) (ps : List Field) (p : Field) {X : Type 0} (m : Bool) (x : Option X) (f : Bool) (e : Fault) (r : Result Bool Fault)
     → Err e ≡ judged (p .place) m x f → fault ps p ≡ verdict m (absent x) f → r ≡ Err e → Took d ps p r
 refused-took d ps p m x f e r j v is =
     let w = refused-by (p .place) m x f e j in
-    subst (λ (s : Result (Unit {0}) Fault). Took d ps p s) (sym is) (v ∙ w .0, w .1)
+    subst (λ (s : Result Bool Fault). Took d ps p s) (sym is) (v ∙ w .0, w .1)
 
 -- an accepted one has none
 pub no-fault : (ps : List Field) (p : Field) {X : Type 0} (m : Bool) (x : Option X) (f : Bool) (y : X) → Ok y ≡ judged (p .place) m x f → fault ps p ≡ verdict m (absent x) f → fault ps p ≡ None

@@ -16,7 +16,7 @@ use Rattle.text.specs.Fields.{refused}
 use Rattle.plan.specs.declared.draft.Draft.{Draft}
 use Rattle.plan.specs.declared.read.Loaded.{Loaded}
 use Rattle.plan.specs.Views.{rules-of, load-of}
-use Rattle.plan.specs.Plans.{Field, size-in, is-listed, opens, rules-in, fault, Reading, read-from, plan-text}
+use Rattle.plan.specs.Plans.{Field, is-end, size-in, is-listed, opens, rules-in, fault, Reading, read-from, plan-text}
 
 -- what a field gave, or its fault: the first of misplaced, unfit, too many rules
 abbrev pub judged : {X : Type 0} → ℕ → Bool → Option X → Bool → Result X Fault
@@ -37,9 +37,10 @@ pub record Holds (d : Draft) (ps : List Field) : Type 0 where
   pub room : length (d .plan .rules) ≡ most-rules
   pub rules : rules-of (d .plan) ≡ rules-in ps
 
--- one field more: nothing is wrong with it, and the draft has it; or its fault
-abbrev pub Took : Draft → List Field → Field → Result (Unit {0}) Fault → Type 0
-Took d ps p (Ok u) = (fault ps p ≡ None) × Holds d (ps ++ (p ∷ []))
+-- one field more: nothing is wrong with it, and the draft has it, or it is End; or its fault
+abbrev pub Took : Draft → List Field → Field → Result Bool Fault → Type 0
+Took d ps p (Ok true) = (fault ps p ≡ None) × (is-end (p .kind) ≡ false) × Holds d (ps ++ (p ∷ []))
+Took d ps p (Ok false) = (fault ps p ≡ None) × (is-end (p .kind) ≡ true) × Holds d ps
 Took d ps p (Err e) = (fault ps p ≡ Some (e .refusal)) × (e .place ≡ p .place)
 
 -- where a reading stands: the fields that the draft has, and that what follows decides what the text says

@@ -4,6 +4,8 @@ use model::bounds::GATES;
 
 mod take;
 
+pub(crate) use take::judge;
+
 /// The plan of the fields so far, and the gates whose positions were listed.
 #[derive(Clone, Copy)]
 pub(crate) struct Draft {

@@ -1,5 +1,6 @@
 pub mod Tests
 pub mod Fields
+pub mod Readers
 pub mod Kinds
 pub mod Payloads
 pub mod Ranges

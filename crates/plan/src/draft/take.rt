@@ -83,7 +83,7 @@ impl Draft {
     }
 
     /// Takes the positions that a gate starts with.
-    fn take_positions(&mut self, field: &Field<PlanKind>) -> Result<(), Fault>
+    fn take_positions(&mut self, field: &Field<PlanKind>) -> Result<bool, Fault>
         requires { ⌜ now field .kind ≡ positionsKind ⌝ }
         ensures { λ r. ⌜ ((ps : List Part) → Holds (now (self .entry)) ps → Took (now (self .exit)) ps (part (now (field .entry))) r) ⌝ }
     {
@@ -94,11 +94,11 @@ impl Draft {
         let row = listing.row;
         self.plan.starts[gate] = row;
         self.listed[gate] = true;
-        Ok(())
+        Ok(true)
     }
 
     /// Takes one rule more.
-    fn take_rule(&mut self, kind: RuleKind, field: &Field<PlanKind>) -> Result<(), Fault>
+    fn take_rule(&mut self, kind: RuleKind, field: &Field<PlanKind>) -> Result<bool, Fault>
         requires { ⌜ now field .kind ≡ ruleKind kind ⌝ }
         ensures { λ r. ⌜ ((ps : List Part) → Holds (now (self .entry)) ps → Took (now (self .exit)) ps (part (now (field .entry))) r) ⌝ }
     {
@@ -107,26 +107,26 @@ impl Draft {
         let rule = judge(field, false, given, count >= RULES)?;
         self.plan.rules[count] = rule;
         self.plan.count = count + 1;
-        Ok(())
+        Ok(true)
     }
 
     /// Takes no second Head.
-    fn take_head(&self, field: &Field<PlanKind>) -> Result<(), Fault>
+    fn take_head(&self, field: &Field<PlanKind>) -> Result<bool, Fault>
         requires { ⌜ now field .kind ≡ headKind ⌝ }
         ensures { λ r. ⌜ ((ps : List Part) → Holds (now (self .entry)) ps → Took (now (self .entry)) ps (part (now (field .entry))) r) ⌝ }
     {
         Err(field.fault(Refusal::Misplaced))
     }
 
-    /// Takes one field more, or tells its fault.
-    pub(crate) fn take(&mut self, field: &Field<PlanKind>) -> Result<(), Fault>
+    /// Takes one field more, and says whether more are to come; or tells its fault.
+    pub(crate) fn take(&mut self, field: &Field<PlanKind>) -> Result<bool, Fault>
         ensures { λ r. ⌜ ((ps : List Part) → Holds (now (self .entry)) ps → Took (now (self .exit)) ps (part (now (field .entry))) r) ⌝ }
     {
         match field.kind {
             PlanKind::Head => self.take_head(field),
             PlanKind::Positions => self.take_positions(field),
             PlanKind::Rule(kind) => self.take_rule(kind, field),
-            PlanKind::End => Ok(()),
+            PlanKind::End => Ok(false),
         }
     }
 }

@@ -3,6 +3,7 @@ ghost use Prim.Native.Nat.{_+_, _≤_};
 ghost use lib.ListN.{length};
 ghost use Rattle.std.specs.Options.{mapped};
 ghost use Rattle.std.specs.Slices.{found};
+ghost use Rattle.text.specs.Readers.{text-of, place-of};
 ghost use Rattle.text.specs.Fields.{prefix-at, payload-at, field-at, next-at, seen};
 use super::Reader;
 use crate::fault::Fault;
@@ -71,24 +72,24 @@ fn field_at<'a, K: Kinds>(text: &'a [u8], place: usize) -> Result<Field<'a, K>, 
 impl<'a> Reader<'a> {
     /// A reader at the start of a text.
     pub fn new(text: &'a [u8]) -> Reader<'a>
-        ensures text { λ r. ⌜ now (r .text) ≡ now (text .entry) ⌝ }
-        ensures at { λ r. ⌜ r .at ≡ 0 ⌝ }
+        ensures text { λ r. ⌜ text-of r ≡ now (text .entry) ⌝ }
+        ensures at { λ r. ⌜ place-of r ≡ 0 ⌝ }
     {
         Reader { text, at: 0 }
     }
 
     /// How far the text was read.
     pub fn place(&self) -> usize
-        ensures { λ r. ⌜ r ≡ now (self .entry) .at ⌝ }
+        ensures { λ r. ⌜ r ≡ place-of (now (self .entry)) ⌝ }
     {
         self.at
     }
 
     /// The next field, behind which the reader then stands, or a fault, which leaves it where it was.
     pub fn next<K: Kinds>(&mut self) -> Result<Field<'a, K>, Fault>
-        ensures value { λ r. ⌜ seen r ≡ field-at (K·Kinds .made) (now (now (self .entry) .text)) (now (self .entry) .at) ⌝ }
-        ensures text { λ r. ⌜ now (now (self .exit) .text) ≡ now (now (self .entry) .text) ⌝ }
-        ensures at { λ r. ⌜ now (self .exit) .at ≡ next-at (seen r) (now (self .entry) .at) ⌝ }
+        ensures value { λ r. ⌜ seen r ≡ field-at (K·Kinds .made) (text-of (now (self .entry))) (place-of (now (self .entry))) ⌝ }
+        ensures text { λ r. ⌜ text-of (now (self .exit)) ≡ text-of (now (self .entry)) ⌝ }
+        ensures at { λ r. ⌜ place-of (now (self .exit)) ≡ next-at (seen r) (place-of (now (self .entry))) ⌝ }
     {
         match field_at(self.text, self.at) {
             Ok(field) => {

@@ -8,6 +8,7 @@ use Rattle.std.specs.declared.result.Result.the-variants.{Err}
 use Rattle.std.proofs.shelf.Results.{err-from-errBy}
 use Rattle.model.specs.Bounds.{most-rules}
 use Rattle.model.specs.Rules.{rule-of}
+use Rattle.plan.specs.Plans.{is-end}
 use Rattle.plan.proofs.Verdicts.{accepted, refused-took, no-fault}
 use Rattle.plan.proofs.Holding.{rule-fault, rule-held}
 use Rattle.plan.proofs.draft.Draft.take_rule.Needs as need
@@ -27,6 +28,7 @@ returns c = λ ps h.
     let a = accepted (c .args .field .now .place) false (c .read-rule-given .result) full (c .in-Continue-rule .rule) (c .in-Continue-rule .ensures tt) in (
       no-fault ps _ false (c .read-rule-given .result) full (c .in-Continue-rule .rule) (c .in-Continue-rule .ensures tt)
           (rule-fault (c .args .self .now) ps h _ (c .args .kind) (c .pre) (c .args .self .now .plan .ruled) (c .read-rule-given .result) full (c .read-rule-given .ensures) refl),
+      ap is-end (c .pre),
       rule-held (c .args .self .now) ps h _ (c .args .kind) (c .pre) (c .args .self .now .plan .ruled) (c .in-Continue-rule .rule) _
           (ap (mapped rule-of) (sym (a .1)) ∙ c .read-rule-given .ensures) (search needs) refl refl refl refl refl refl,
     )
