@@ -1,6 +1,9 @@
 -- Plans, and what a load leaves.
 use mathlib.Core.List.{List}
-use Prim.Native.Nat.{ℕ, _<_}
+use Prim.Native.Nat.{ℕ, _<_, _≤_}
+use lib.Dec.{T}
+use lib.ListN.{length}
+use Rattle.model.specs.Bounds.{most-gates, most-width, most-rules}
 use Rattle.model.specs.Families.{Family, _∈_}
 use Rattle.model.specs.Rules.{Rule, offset, near, not-above, total}
 
@@ -22,6 +25,15 @@ Names-below n (near x y d) = (x < n) × (y < n)
 Names-below n (not-above x y c) = (x < n) × (y < n)
 Names-below n (total low high ms) = ((m : ℕ × ℕ) × (m ∈ ms)) × ((m : ℕ × ℕ) → m ∈ ms → m .0 < n)
 
--- as it is of every plan that was accepted
 abbrev pub Well-named : Plan → Type 0
 Well-named plan = (r : Rule) → r ∈ plan .rules → Names-below (plan .gates) r
+
+-- what holds of every load that was accepted
+pub record Sound-load (load : Load) : Type 0 where
+  pub some-gates : 1 ≤ load .plan .gates
+  pub few-gates : load .plan .gates ≤ most-gates
+  pub some-positions : 1 ≤ load .plan .width
+  pub few-positions : load .plan .width ≤ most-width
+  pub few-rules : length (load .plan .rules) ≤ most-rules
+  pub named : Well-named (load .plan)
+  pub inside : (g p : ℕ) → T (load .start g p) → (g < load .plan .gates) × (p < load .plan .width)

@@ -5,6 +5,7 @@ ghost use Prim.Native.Nat.{ℕ, _<_};
 ghost use Rattle.std.specs.declared.result.Result.the-variants.{Ok};
 ghost use Rattle.text.specs.Readers.{text-of, place-of};
 ghost use Rattle.plan.specs.Plans.{is-head, plan-text};
+ghost use Rattle.plan.specs.Meanings.{Means-only, Sound};
 ghost use Rattle.plan.specs.Drafts.{Underway, Begun, Stepped, seen-plan};
 use super::Loaded;
 use crate::draft::Draft;
@@ -49,8 +50,8 @@ fn step(draft: &mut Draft, reader: &mut Reader) -> Result<bool, Fault>
     draft.take(&field)
 }
 
-/// Reads a plan from the start of a text, up to and with its End.
-pub fn read_plan(text: &[u8]) -> Result<Loaded, Fault>
+/// Reads the fields of a plan, up to and with End.
+fn read_fields(text: &[u8]) -> Result<Loaded, Fault>
     ensures { λ r. ⌜ seen-plan r ≡ plan-text (now (text .entry)) ⌝ }
 {
     let mut reader = Reader::new(text);
@@ -60,4 +61,13 @@ pub fn read_plan(text: &[u8]) -> Result<Loaded, Fault>
         plan: draft.plan,
         read: reader.place(),
     })
+}
+
+/// The plan that a text begins with, and the bytes that it takes up to and with its End; or the text's first fault.
+pub fn read_plan(text: &[u8]) -> Result<Loaded, Fault>
+    ensures value { λ r. ⌜ seen-plan r ≡ plan-text (now (text .entry)) ⌝ }
+    ensures meaning { λ r. ⌜ Means-only (now (text .entry)) (seen-plan r) ⌝ }
+    ensures sound { λ r. ⌜ Sound (seen-plan r) ⌝ }
+{
+    read_fields(text)
 }

@@ -3,7 +3,7 @@ use Prim.Native.Nat.{_-_}
 use lib.ListN.{length}
 use Rattle.text.specs.Readers.{text-of, place-of}
 use Rattle.plan.specs.Drafts.{Underway}
-use Rattle.plan.proofs.read.fields.read_plan.Given as given
+use Rattle.plan.proofs.read.fields.read_fields.Given as given
 
 abbrev pub Inv-loop : given.InvT-loop
 Inv-loop l = (text-of (l .reader) ≡ l .text) × Underway (l .text) (place-of (l .reader)) (l .draft)
