@@ -9,6 +9,7 @@ use model::rule::Rule;
 mod draft;
 mod questions;
 pub mod read;
+pub mod trials;
 
 /// Gates, width, the positions that each gate starts with, and the first `count` of the rules, in text order.
 #[derive(Clone, Copy)]
