@@ -19,18 +19,23 @@ use Rattle.model.specs.Families.{_∈_}
 use Rattle.model.specs.Members.{gates-differ}
 use Rattle.model.specs.Rules.{Rule as Law, offset, near, not-above, total, rule-of}
 use Rattle.model.specs.Plans.{Names-below, Load, Well-named, Sound-load}
+use Rattle.model.specs.declared.refusal.Refusal.{Refusal}
 use Rattle.text.specs.declared.fault.Fault.{Fault}
 use Rattle.text.specs.declared.kind.PlanKind.{PlanKind}
 use Rattle.text.specs.declared.kind.PlanKind.the-variants.{Head, Positions, Rule, End}
 use Rattle.text.specs.declared.kind.RuleKind.{RuleKind}
 use Rattle.text.specs.declared.kind.RuleKind.the-variants.{Offset, Near, NotAbove, Total}
+use Rattle.text.specs.Fields.{prefix-at, payload-at, with-kind, with-payload, with-prefix, field-at, next-at}
+use Rattle.text.specs.Kinds.{plan-kind}
 use Rattle.text.specs.Tests.{when, within}
 use Rattle.text.specs.Payloads.{two-gates, link-in, near-in, members-in, gates-below, members-of, quad-at, with-members, total-in, rule-in}
+use Rattle.plan.specs.declared.Plan.{Plan}
 use Rattle.plan.specs.declared.read.Loaded.{Loaded}
 use Rattle.plan.specs.Views.{load-of, rules-of}
-use Rattle.plan.specs.Plans.{Field, size-in, if-any, rules-by, rule-by, rules-in, load-in, Reading, plan-text}
+use Rattle.plan.specs.Plans.{Field, plan-field, size-in, if-any, rules-by, rule-by, rules-in, load-in, Reading, plan-text}
 use Rattle.plan.specs.Drafts.{seen-plan}
 use Rattle.plan.specs.Meanings.{Means, Sound}
+use Rattle.plan.proofs.Verdicts.{differ}
 use Rattle.plan.proofs.Meaning.{means-only}
 
 none-some : {X : Type 0} {x : X} → _≡_ {A = Option X} None (Some x) → ⊥
@@ -130,20 +135,50 @@ load-named : (ps : List Field) → Well-named (load-in ps .plan)
 unfolding load-in
 load-named ps r i = fields-named (size-in ps .gates) ps r i
 
-pub sound : (text : List ℕ) (r : Result Loaded Fault) → seen-plan r ≡ plan-text text → Sound (seen-plan r)
-sound text (Err e) is = tt
-sound text (Ok l) is =
-    let says = subst (Means text) (sym is) (means-only text .means) in
-    let p = l .plan in
+-- a field lies within its text
+payload-inside : (text : List ℕ) (at len : ℕ) (bytes : List ℕ) → payload-at text at len ≡ Some bytes → at + 3 + length bytes ≤ length text
+payload-inside text at len bytes e =
+    let p = passed (leb (at + 3 + len) (length text)) (take len (drop (at + 3) text)) bytes e in
+    let h = leb→le (at + 3 + len) (length text) (p .0) in
+    let k = ap length (sym (p .1)) ∙ length-take len (drop (at + 3) text) in
+    omega arith
+
+kind-bytes : (made : Result PlanKind Refusal) (at : ℕ) (bytes : List ℕ) (p : Field) → with-kind made at bytes ≡ Ok p → p .bytes ≡ bytes
+kind-bytes (Ok k) at bytes p e = cc
+kind-bytes (Err why) at bytes p e = absurd (differ (sym e))
+
+by-payload : (text : List ℕ) (at len : ℕ) (made : Result PlanKind Refusal) (o : Option (List ℕ)) (p : Field) → payload-at text at len ≡ o → with-payload made at o ≡ Ok p → at + 3 + length (p .bytes) ≤ length text
+by-payload text at len made None p is e = absurd (differ (sym e))
+by-payload text at len made (Some bytes) p is e =
+    subst (λ (bs : List ℕ). at + 3 + length bs ≤ length text) (sym (kind-bytes made at bytes p e)) (payload-inside text at len bytes is)
+
+by-prefix : (text : List ℕ) (at : ℕ) (o : Option (ℕ × ℕ)) (p : Field) → with-prefix plan-kind text at o ≡ Ok p → at + 3 + length (p .bytes) ≤ length text
+by-prefix text at None p e = absurd (differ (sym e))
+by-prefix text at (Some pre) p e = by-payload text at (pre .1) (plan-kind (pre .0) (pre .1)) (payload-at text at (pre .1)) p refl e
+
+field-inside : (text : List ℕ) (at : ℕ) (p : Field) → plan-field text at ≡ Ok p → next-at (Ok p) at ≤ length text
+unfolding field-at
+field-inside text at p e = by-prefix text at (prefix-at text at) p e
+
+load-sound : (p : Plan) → Well-named (load-of p .plan) → Sound-load (load-of p)
+load-sound p named =
     record {
       some-gates = p .gated .0;
       few-gates = p .gated .1;
       some-positions = p .wide .0;
       few-positions = p .wide .1;
       few-rules = let few = p .ruled in let k = length-map (take (p .count) (p .rules)) rule-of in let t = length-take (p .count) (p .rules) in omega arith;
-      named = subst (λ (x : Load). Well-named (x .plan)) (sym (says .load)) (load-named (says .fields));
+      named = named;
       inside = λ g q t. (
         ltb→lt g (p .gates) (both-left (ltb g (p .gates)) _ t),
         ltb→lt q (p .width) (both-left (ltb q (p .width)) _ (both-right (ltb g (p .gates)) _ t)),
       );
     }
+
+pub sound : (text : List ℕ) (r : Result Loaded Fault) → seen-plan r ≡ plan-text text → Sound text (seen-plan r)
+sound text (Err e) is = tt
+sound text (Ok l) is =
+    let says = subst (Means text) (sym is) (means-only text .means) in (
+      load-sound (l .plan) (subst (λ (x : Load). Well-named (x .plan)) (sym (says .load)) (load-named (says .fields))),
+      subst (λ (n : ℕ). n ≤ length text) (sym (says .read)) (field-inside text (says .at) (says .end) (says .here)),
+    )

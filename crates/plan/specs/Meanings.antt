@@ -3,7 +3,8 @@ use mathlib.Core.Bool.{true, false}
 use mathlib.Core.List.{List, [], _∷_, _++_}
 use mathlib.Core.Logic.{_⊎_}
 use mathlib.Core.Path.{_≡_}
-use Prim.Native.Nat.{ℕ}
+use Prim.Native.Nat.{ℕ, _≤_}
+use lib.ListN.{length}
 use Rattle.std.specs.declared.option.Option.the-variants.{None, Some}
 use Rattle.std.specs.declared.result.Result.{Result}
 use Rattle.std.specs.declared.result.Result.the-variants.{Ok, Err}
@@ -45,7 +46,7 @@ pub record Means-only (text : List ℕ) (r : Result Reading Fault) : Type 0 wher
   pub means : Means text r
   pub nothing-else : (other : Result Reading Fault) → Means text other → other ≡ r
 
--- what is read is within the bounds, and names only gates and positions that there are
-abbrev pub Sound : Result Reading Fault → Type 0
-Sound (Ok r) = Sound-load (r .load)
-Sound (Err e) = Unit {0}
+-- what is read is within the bounds, names only gates and positions that there are, and was read from the text
+abbrev pub Sound : List ℕ → Result Reading Fault → Type 0
+Sound text (Ok r) = Sound-load (r .load) × (r .read ≤ length text)
+Sound text (Err e) = Unit {0}

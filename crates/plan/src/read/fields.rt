@@ -67,7 +67,7 @@ fn read_fields(text: &[u8]) -> Result<Loaded, Fault>
 pub fn read_plan(text: &[u8]) -> Result<Loaded, Fault>
     ensures value { λ r. ⌜ seen-plan r ≡ plan-text (now (text .entry)) ⌝ }
     ensures meaning { λ r. ⌜ Means-only (now (text .entry)) (seen-plan r) ⌝ }
-    ensures sound { λ r. ⌜ Sound (seen-plan r) ⌝ }
+    ensures sound { λ r. ⌜ Sound (now (text .entry)) (seen-plan r) ⌝ }
 {
     read_fields(text)
 }

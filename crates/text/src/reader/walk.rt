@@ -1,5 +1,5 @@
 ghost use mathlib.Core.Path.{_≡_};
-ghost use Prim.Native.Nat.{_+_, _≤_};
+ghost use Prim.Native.Nat.{_+_, _≤_, min};
 ghost use lib.ListN.{length};
 ghost use Rattle.std.specs.Options.{mapped};
 ghost use Rattle.std.specs.Slices.{found};
@@ -76,6 +76,17 @@ impl<'a> Reader<'a> {
         ensures at { λ r. ⌜ place-of r ≡ 0 ⌝ }
     {
         Reader { text, at: 0 }
+    }
+
+    /// A reader at a place of a text, or at the end of one that is shorter.
+    pub fn at(text: &'a [u8], place: usize) -> Reader<'a>
+        ensures text { λ r. ⌜ text-of r ≡ now (text .entry) ⌝ }
+        ensures at { λ r. ⌜ place-of r ≡ min place (length (now (text .entry))) ⌝ }
+    {
+        Reader {
+            text,
+            at: place.min(text.len()),
+        }
     }
 
     /// How far the text was read.
