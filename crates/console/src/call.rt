@@ -1,0 +1,15 @@
+// The fields of calls.
+ghost use Rattle.console.specs.Calls.{call-kind};
+use model::refusal::Refusal;
+use text::field::Kinds;
+
+/// What a call field is about. No call is known yet.
+pub enum CallKind {}
+
+pub impl Kinds for CallKind as CallKinds {
+    ghost made = { call-kind };
+
+    fn of(tag: u8, len: u16) -> Result<CallKind, Refusal> {
+        Err(Refusal::UnknownTag)
+    }
+}
