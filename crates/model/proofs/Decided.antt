@@ -1,27 +1,26 @@
 -- Small cases by trying them all.
-use mathlib.Core.Path.{_≡_, refl, sym, _∙_, ap, ap₂, subst}
-use mathlib.Core.Bool.{Bool, true, false, not, _&&_, _||_, cond}
-use mathlib.Core.List.{List, [], _∷_, List·Memᴰ, List·Memᴰ·head, List·Memᴰ·tail}
-use mathlib.Core.Logic.{_⊎_, inl, inr, ⊎-elim, _↔_}
-use Rattle.std.specs.declared.option.Option.{Option}
+use mathlib.Core.Path.{_≡_, refl, sym, ap₂, subst}
+use mathlib.Core.Bool.{Bool, true, false, not, _&&_, _||_}
+use mathlib.Core.List.{List, [], _∷_, List·Memᴰ·head, List·Memᴰ·tail}
+use mathlib.Core.Logic.{_⊎_, inl, inr, ⊎-elim}
 use Rattle.std.specs.declared.option.Option.the-variants.{None, Some}
-use Prim.Native.Nat.{ℕ, zero, suc, _+_, _≤_, _<_}
-use native.Mathlib.Nat.{le-refl, suc-inj}
+use Prim.Native.Nat.{ℕ, zero, suc, _+_, _<_}
+use native.Mathlib.Nat.{suc-inj}
 use native.Mathlib.Omega.{arith}
-use lib.Dec.{T, eqb, leb, ltb, leb→le, le→leb, ltb→lt, lt→ltb, eqb→eq, eqb-refl}
+use lib.Dec.{T, eqb, leb, ltb, leb→le, le→leb, ltb→lt, eqb→eq}
 use lib.IntN.{ℤ, pos, _+ℤ_}
-use lib.ListN.{length, getD}
+use lib.ListN.{length}
 use Rattle.model.specs.Families.{Family, Inside, has, _∈_}
 use Rattle.model.specs.Rules.{Rule, offset, near, not-above, total, Meets, shares}
-use Rattle.model.specs.Settled.{Settled, Largest}
+use Rattle.model.specs.Settled.{Largest}
 use Rattle.model.specs.Plans.{Plan}
 use Rattle.model.specs.Settings.{at, Permitted, Before, First}
 use Rattle.model.specs.Calls.{strike, keep}
 use Rattle.model.specs.Ledgers.{narrowed}
 use Rattle.model.specs.Trials.{trial, rows, settled-trial, Trials}
-use Rattle.model.proofs.Tests.{both, left, right, given, taken, one-of, or-else, eqb-of}
+use Rattle.model.proofs.Tests.{both, left, right, taken, one-of}
 use Rattle.model.proofs.Sieve.{offset-test, near-test, not-above-test, near-sound, near-complete, same-sound, same-complete}
-use Rattle.model.proofs.Settles.{Below, all-support, sieved, sieved-contains, unsieved-settled, last-or-before}
+use Rattle.model.proofs.Settles.{all-support, sieved, sieved-contains, unsieved-settled, last-or-before}
 
 -- the test holds of each number below n
 abbrev each : ℕ → (ℕ → Bool) → Bool

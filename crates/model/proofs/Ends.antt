@@ -1,20 +1,19 @@
 -- Where strings end: which settings are permitted, and that two strings meet.
 use mathlib.Core.Path.{_≡_, refl, sym, _∙_, ap, subst}
-use mathlib.Core.Bool.{Bool, true, false, not, _&&_, _||_}
-use mathlib.Core.List.{List, [], _∷_, _++_, List·Memᴰ, List·Memᴰ·head, List·Memᴰ·tail, List·Memᴰ·not-nil}
-use Rattle.std.specs.declared.option.Option.{Option}
-use Rattle.std.specs.declared.option.Option.the-variants.{None, Some}
+use mathlib.Core.Bool.{not, _&&_}
+use mathlib.Core.List.{List, [], _∷_, _++_, List·Memᴰ·head, List·Memᴰ·tail, List·Memᴰ·not-nil}
+use Rattle.std.specs.declared.option.Option.the-variants.{None}
 use Prim.Native.Nat.{ℕ, _<_}
 use native.Mathlib.Omega.{arith}
 use lib.Dec.{T, eqb, ltb, eqb→eq, eqb-refl, ltb→lt}
 use Rattle.model.specs.Families.{Family, Inside, has, _∈_}
 use Rattle.model.specs.Rules.{Rule}
-use Rattle.model.specs.Settled.{Settled, Largest}
+use Rattle.model.specs.Settled.{Settled}
 use Rattle.model.specs.declared.refusal.Refusal.the-variants.{NoGate, NoPosition}
 use Rattle.model.specs.Plans.{Plan, Load}
 use Rattle.model.specs.Settings.{at, Permitted, First}
-use Rattle.model.specs.Calls.{Narrowing, strike, bind, keep, Call, narrow, save, restore, note, settle, ask, leaves, Obeys, Stands, Settle-behind, Same-narrowings}
-use Rattle.model.specs.Ledgers.{Ledger, opened, narrowed, Entered, Fed}
+use Rattle.model.specs.Calls.{Narrowing, strike, bind, keep, Call, narrow, save, restore, note, settle, ask, leaves, Obeys, Stands, Settle-behind}
+use Rattle.model.specs.Ledgers.{Ledger, opened, Entered, Fed}
 use Rattle.model.specs.Planners.{Planner, domains-of, unless, refusal, all-below, Runs, stops, accepts, refuses, Loaded}
 use Rattle.model.specs.Statements.{As-the-ledger, Meant, Strings-permit, Strings-meet, Strings-end, Ended, Met}
 use Rattle.model.proofs.Tests.{both, left, right, given, taken, denied, denies, eqb-of, families-agree}
@@ -114,7 +113,7 @@ meet-inside rules start cs ds l m h k same b =
     (λ g p t n i. fed-below rules cs start l h g p t .1 n (same n i))
     (λ g p t. fed-below rules cs start l h g p t .0)
 
--- the gate of an accepted strike, bind or keep is one of the setting's
+-- the gate of an accepted strike, bind or keep is one of the plan's
 gate-of : Narrowing → ℕ
 gate-of (strike g p) = g
 gate-of (bind g p) = g

@@ -11,13 +11,12 @@ use lib.ListN.{length, take, drop, length-append, take-append-drop}
 use lib.Seq.{take-append-le, take-length}
 use Rattle.model.specs.Families.{Family, has}
 use Rattle.model.specs.Rules.{Rule}
-use Rattle.model.specs.Settled.{Largest}
 use Rattle.model.specs.Plans.{Load}
-use Rattle.model.specs.Calls.{Narrowing, Call, narrow, save, restore, note, settle, ask}
-use Rattle.model.specs.Ledgers.{Ledger, opened, narrowed, Entered, ascending, changes-of}
-use Rattle.model.specs.Planners.{Save, Planner, open-beside, domains-of, changed, Once, unless, refusal, Gone-is, Notes-are, Shrunk, Saved, Restored, Noted, Done, Loaded}
+use Rattle.model.specs.Calls.{Call, narrow, save, restore, note, settle, ask}
+use Rattle.model.specs.Ledgers.{Ledger, opened, Entered, ascending, changes-of}
+use Rattle.model.specs.Planners.{Save, Planner, open-beside, changed, Once, unless, refusal, Gone-is, Notes-are, Shrunk, Saved, Restored, Noted, Done, Loaded}
 use Rattle.std.specs.declared.option.Option.{Option}
-use Rattle.std.specs.declared.option.Option.the-variants.{None, Some}
+use Rattle.std.specs.declared.option.Option.the-variants.{None}
 use Rattle.model.specs.declared.refusal.Refusal.{Refusal}
 use Rattle.model.specs.declared.refusal.Refusal.the-variants.{NoReader}
 use Rattle.model.specs.Bounds.{readers}
@@ -55,7 +54,7 @@ abbrev pub track : Load → Planner → Track
 track load s = record { now = ledger-of load (s .gone) (s .notes); held = held-of load (s .gone) (s .saves) }
 
 module _ (load : Load) where
-  -- equal at every gate of the setting
+  -- equal at every gate of the plan
   abbrev Alike : {A : Type 0} → (ℕ → A) → (ℕ → A) → Type 0
   Alike a b = (g : ℕ) → g < load .plan .gates → a g ≡ b g
 

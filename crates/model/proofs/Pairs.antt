@@ -1,11 +1,10 @@
 -- Saves and restores pair like brackets: what stands of a string is one thing, and is there where no restore wants a save.
 use mathlib.Core.Path.{_≡_, refl, sym, _∙_, ap, subst}
-use mathlib.Core.List.{List, [], _∷_, _++_, append-assoc, List·Memᴰ, List·Memᴰ·head, List·Memᴰ·tail, Memᴰ·append-right}
-use mathlib.Core.Logic.{_⊎_, inl, inr}
+use mathlib.Core.List.{List, [], _∷_, _++_, append-assoc, List·Memᴰ·head, List·Memᴰ·tail, Memᴰ·append-right}
 use Prim.Native.Nat.{ℕ, zero, suc}
 use native.Mathlib.Omega.{arith}
 use Rattle.model.specs.Families.{_∈_}
-use Rattle.model.specs.Calls.{Narrowing, Call, narrow, save, restore, note, settle, ask, Plain, Closed, empty, plain, pair, Stands, end, taken-back, stays}
+use Rattle.model.specs.Calls.{Call, narrow, save, restore, note, settle, ask, Plain, Closed, empty, plain, pair, Stands, end, taken-back, stays}
 use Rattle.model.specs.Statements.{One-standing}
 
 -- is the call a bracket?

@@ -1,18 +1,17 @@
 -- For a solve that tries positions in order: which step keeps the answer, and when a setting is found or there is None.
 use mathlib.Core.Path.{_≡_, refl, sym, _∙_, ap, subst}
-use mathlib.Core.Bool.{Bool, true, false, not, _&&_, _||_, cond}
+use mathlib.Core.Bool.{_&&_}
 use mathlib.Core.List.{List, [], _∷_}
 use mathlib.Core.Logic.{_⊎_, inl, inr}
 use Rattle.std.specs.declared.option.Option.{Option}
 use Rattle.std.specs.declared.option.Option.the-variants.{None, Some}
 use Prim.Native.Nat.{ℕ, zero, suc, _≤_, _<_}
-use native.Mathlib.Nat.{le-refl}
 use native.Mathlib.Omega.{arith}
 use lib.Dec.{T, eqb, eqb→eq, eqb-refl}
 use lib.ListN.{length}
-use Rattle.model.specs.Families.{Family, Inside, _∈_}
-use Rattle.model.specs.Rules.{Rule, offset, near, not-above, total, shares, Meets, Offset-admits, Near-admits, Not-above-admits}
-use Rattle.model.specs.Settled.{Partnered, Least, Balanced, instead, Settled-under, Settled, Largest}
+use Rattle.model.specs.Families.{Family, Inside}
+use Rattle.model.specs.Rules.{Rule, offset, near, not-above, total, Meets, Offset-admits, Near-admits, Not-above-admits}
+use Rattle.model.specs.Settled.{Partnered, Least, instead, Settled-under, Settled, Largest}
 use Rattle.model.specs.Plans.{Plan, Names-below, Well-named}
 use Rattle.model.specs.Settings.{at, Permitted, Before, First}
 use Rattle.model.specs.Calls.{strike, bind, leaves}

@@ -1,16 +1,15 @@
 -- There is a largest settled family: take out what no rule supports, again and again.
 use mathlib.Core.Path.{_≡_, refl, sym, _∙_, ap, subst}
-use mathlib.Core.Bool.{Bool, true, false, not, _&&_, _||_, cond}
-use mathlib.Core.List.{List, [], _∷_, List·Memᴰ, List·Memᴰ·head, List·Memᴰ·tail}
+use mathlib.Core.Bool.{Bool, true, false, _&&_}
+use mathlib.Core.List.{List, [], _∷_, List·Memᴰ·head, List·Memᴰ·tail}
 use mathlib.Core.Logic.{_⊎_, inl, inr}
 use Prim.Native.Nat.{ℕ, zero, suc, _+_, _≤_, _<_}
 use native.Mathlib.Nat.{le-refl}
 use native.Mathlib.Omega.{arith}
-use lib.Dec.{T, eqb, leb, leb→le, le→leb, ltb, ltb→lt, lt→ltb, eqb→eq}
+use lib.Dec.{T, eqb, leb, leb→le, le→leb, eqb→eq}
 use Rattle.model.specs.Families.{Family, Inside, _∈_}
 use Rattle.model.specs.Rules.{Rule}
-use Rattle.model.specs.Settled.{Settled-under, Settled, Largest}
-use Rattle.model.specs.Plans.{Load}
+use Rattle.model.specs.Settled.{Settled, Largest}
 use Rattle.model.specs.Statements.{Some-largest}
 use Rattle.model.proofs.Tests.{both, left, right, families-agree, decided, eqb-of}
 use Rattle.model.proofs.Sieve.{supports, settled-supported, supported-settled}

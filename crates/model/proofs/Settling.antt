@@ -1,17 +1,16 @@
 -- The laws of settling.
 use mathlib.Core.Path.{_≡_, refl, sym, _∙_, ap, ap₂, subst}
 use mathlib.Core.Bool.{Bool, true, false, _&&_, cond}
-use mathlib.Core.List.{List, [], _∷_, List·Memᴰ, List·Memᴰ·head, List·Memᴰ·tail}
-use mathlib.Core.Logic.{_⊎_, inl, inr}
+use mathlib.Core.List.{List, [], _∷_, List·Memᴰ·head, List·Memᴰ·tail}
 use Prim.Native.Nat.{ℕ, _+_, _*_, _≤_, _<_}
 use lib.Dec.{T, eqb, ltb, eqb→eq, eqb-refl, ltb→lt, lt→ltb}
 use Rattle.model.specs.Families.{Family, Inside, _∈_}
 use Rattle.model.specs.Rules.{Rule, offset, near, not-above, total, Offset-admits, Near-admits, Not-above-admits, shares, Meets}
-use Rattle.model.specs.Settled.{Partnered, Least, Greatest, instead, Balanced, Settled-under, Settled, Largest}
+use Rattle.model.specs.Settled.{Partnered, instead, Balanced, Settled-under, Settled}
 use Rattle.model.specs.Plans.{Plan, Names-below, Well-named}
 use Rattle.model.specs.Settings.{at, Permitted}
 use Rattle.model.specs.Statements.{One-largest, Settling-grows, Settling-rests, Settling-keeps-settings}
-use Rattle.model.proofs.Tests.{both, left, right, families-agree, eqb-of, decided, is-true, is-false}
+use Rattle.model.proofs.Tests.{both, left, right, families-agree}
 
 pub one-largest : One-largest
 one-largest rules d f e hf he =

@@ -1,20 +1,16 @@
 -- Strings of calls: what stands of them is what the ledger is fed.
 use mathlib.Core.Path.{_≡_, refl, sym, _∙_, ap, subst}
-use mathlib.Core.Bool.{Bool, true, false, not, _&&_, _||_}
-use mathlib.Core.List.{List, [], _∷_, _++_, List·Memᴰ, List·Memᴰ·head, List·Memᴰ·tail}
-use Rattle.std.specs.declared.option.Option.{Option}
+use mathlib.Core.List.{List, [], _∷_, _++_}
 use Rattle.std.specs.declared.option.Option.the-variants.{None, Some}
-use Prim.Native.Nat.{ℕ, _<_}
+use Prim.Native.Nat.{ℕ}
 use native.Mathlib.Omega.{arith}
-use lib.Dec.{T}
-use Rattle.model.specs.Families.{Family, Inside, _∈_}
 use Rattle.model.specs.Rules.{Rule}
 use Rattle.model.specs.declared.refusal.Refusal.{Refusal}
 use Rattle.model.specs.Plans.{Plan, Load}
-use Rattle.model.specs.Calls.{Narrowing, Call, narrow, save, restore, note, settle, ask, Plain, Closed, empty, plain, pair, Stands, end, taken-back, stays}
-use Rattle.model.specs.Ledgers.{Ledger, opened, Entered, Fed}
-use Rattle.model.specs.Planners.{Planner, domains-of, refusal, Done, Runs, stops, accepts, refuses, Loaded}
-use Rattle.model.specs.Statements.{One-ledger, Strings-stand, As-the-ledger, Strings-end-as-the-ledger}
+use Rattle.model.specs.Calls.{Call, narrow, save, restore, note, settle, ask, Plain, Closed, empty, plain, pair, Stands, end, taken-back, stays}
+use Rattle.model.specs.Ledgers.{Ledger, Entered, Fed}
+use Rattle.model.specs.Planners.{Planner, refusal, Done, Runs, stops, accepts, refuses}
+use Rattle.model.specs.Statements.{One-ledger, Strings-stand, Strings-end-as-the-ledger}
 use Rattle.model.proofs.Settling.{one-largest}
 use Rattle.model.proofs.Pairs.{Form, whole, wants, form}
 use Rattle.model.proofs.Meaning.{Track, Move, track, Kept, moves, loaded-kept, loaded-held, loaded-now, changes-agree}

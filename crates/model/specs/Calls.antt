@@ -4,7 +4,7 @@ use mathlib.Core.Bool.{Bool, not, _&&_, _||_}
 use mathlib.Core.List.{List, [], _∷_, _++_}
 use Prim.Native.Nat.{ℕ}
 use lib.Dec.{T, eqb}
-use Rattle.model.specs.Families.{Family, has, _∈_}
+use Rattle.model.specs.Families.{has, _∈_}
 use Rattle.model.specs.Settings.{at}
 
 -- strike and bind have a gate and a position, keep a gate and a list of positions

@@ -11,10 +11,9 @@ use Rattle.model.specs.declared.refusal.Refusal.{Refusal}
 use Rattle.model.specs.declared.refusal.Refusal.the-variants.{NoGate, NoPosition, TooManySaves, NoSave, NoReader, ListTooShort}
 use Rattle.model.specs.Bounds.{readers, most-saves}
 use Rattle.model.specs.Families.{Family, has}
-use Rattle.model.specs.Rules.{Rule}
 use Rattle.model.specs.Settled.{Largest}
 use Rattle.model.specs.Plans.{Plan, Load, Well-named}
-use Rattle.model.specs.Calls.{Narrowing, strike, bind, keep, Question, changes, show, solve, Call, narrow, save, restore, note, settle, ask}
+use Rattle.model.specs.Calls.{strike, bind, keep, changes, show, solve, Call, narrow, save, restore, note, settle, ask}
 use Rattle.model.specs.Ledgers.{narrowed, ascending}
 
 -- an open save: the length of every gone list then (the store's mark), and the notes then

@@ -8,7 +8,7 @@ use lib.Dec.{T}
 use Rattle.model.specs.Bounds.{readers}
 use Rattle.model.specs.Families.{Family, Inside, _∈_}
 use Rattle.model.specs.Rules.{Rule}
-use Rattle.model.specs.Settled.{Settled, Largest}
+use Rattle.model.specs.Settled.{Largest}
 use Rattle.model.specs.Plans.{Plan, Load, Well-named}
 use Rattle.model.specs.Settings.{Permitted, First}
 use Rattle.model.specs.Calls.{Narrowing, Call, narrow, Stands, Obeys, Settle-behind, Same-narrowings}

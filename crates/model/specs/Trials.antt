@@ -1,15 +1,13 @@
 -- Trial settings, by the definitions.
-use mathlib.Core.Path.{_≡_}
 use mathlib.Core.Bool.{_&&_}
 use mathlib.Core.List.{List, [], _∷_}
-use Rattle.std.specs.declared.option.Option.{Option}
 use Rattle.std.specs.declared.option.Option.the-variants.{None, Some}
 use Prim.Native.Nat.{ℕ}
 use lib.Dec.{ltb}
 use lib.IntN.{pos, negsuc}
 use lib.ListN.{getD}
 use Rattle.model.specs.Families.{Family, has}
-use Rattle.model.specs.Rules.{Rule, offset, near, not-above, total, Not-above-admits}
+use Rattle.model.specs.Rules.{offset, near, total, Not-above-admits}
 use Rattle.model.specs.Settled.{Largest}
 use Rattle.model.specs.Plans.{Load}
 use Rattle.model.specs.Settings.{Permitted, First}

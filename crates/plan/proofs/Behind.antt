@@ -8,12 +8,11 @@ use lib.ListN.{length, drop}
 use Rattle.std.specs.Joined.{joined}
 use Rattle.std.proofs.shelf.Lists.{joined-more}
 use Rattle.std.proofs.shelf.Tests.{both-ways}
-use Rattle.model.specs.Rules.{Rule}
 use Rattle.text.specs.declared.head.Head.{Head as Size}
 use Rattle.text.specs.Ranges.{covered}
 use Rattle.plan.specs.Plans.{Field, size-in, lists, is-listed, chosen, opens, rule-by, rules-in}
 
-or-false : (b : Bool) → (b || false) ≡ b
+pub or-false : (b : Bool) → (b || false) ≡ b
 or-false true = refl
 or-false false = refl
 

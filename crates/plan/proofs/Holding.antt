@@ -1,11 +1,11 @@
 -- What a draft holds after one field more.
-use mathlib.Core.Bool.{Bool, true, false, _&&_, _||_, not, cond}
+use mathlib.Core.Bool.{Bool, true, false, _||_, not, cond}
 use mathlib.Core.List.{List, [], _∷_, _++_, map, append-nil}
 use mathlib.Core.Logic.{⊎-elim}
 use mathlib.Core.Path.{_≡_, refl, sym, ap, subst, _∙_}
 use Prim.Native.Nat.{ℕ, _+_, _≤_, _<_}
 use native.Mathlib.Omega.{arith}
-use lib.Dec.{leb, ltb, eqb}
+use lib.Dec.{T, leb, ltb, eqb, ltb→lt}
 use lib.ListN.{length, take, drop, getD, set, replicate, length-map}
 use lib.Seq.{getD-set-same, getD-set-other, length-take-le}
 use Rattle.std.specs.Iters.{counting}
@@ -14,26 +14,25 @@ use Rattle.std.specs.declared.option.Option.{Option}
 use Rattle.std.specs.declared.option.Option.the-variants.{None, Some}
 use Rattle.std.proofs.shelf.Counted.{getD-map-counting}
 use Rattle.std.proofs.shelf.Lists.{take-more-set, map-push, getD-replicate, length-set, length-replicate}
-use Rattle.std.proofs.shelf.Tests.{both-ways, cases-eq, eq-eqb, ne-eqb}
+use Rattle.std.proofs.shelf.Tests.{cases-eq, eq-eqb, ne-eqb}
 use Rattle.model.specs.Bounds.{most-gates, most-width, most-rules}
 use Rattle.model.specs.Rules.{Rule as Law, rule-of}
-use Rattle.model.specs.declared.refusal.Refusal.the-variants.{Misplaced, OutOfRange, TooManyRules}
+use Rattle.model.specs.declared.refusal.Refusal.the-variants.{Misplaced}
 use Rattle.model.specs.declared.rule.Rule.{Rule as Code}
 use Rattle.text.specs.declared.head.Head.{Head as Size}
 use Rattle.text.specs.declared.kind.PlanKind.{PlanKind}
 use Rattle.text.specs.declared.kind.PlanKind.the-variants.{Head, Positions, Rule, End}
 use Rattle.text.specs.declared.kind.RuleKind.{RuleKind}
 use Rattle.text.specs.declared.positions.Listing.{Listing}
-use Rattle.text.specs.Fields.{Part}
 use Rattle.text.specs.Tests.{when}
 use Rattle.text.specs.Payloads.{head-of, rule-in}
 use Rattle.text.specs.Ranges.{covered, sound, row-of, listing-of}
 use Rattle.plan.specs.declared.draft.Draft.{Draft}
 use Rattle.plan.specs.Views.{rules-of}
-use Rattle.plan.specs.Plans.{Field, is-head, is-end, size-by, size-in, lists, lists-by, begins-with, is-listed, opens, if-any, rule-by, rules-by, rules-in, repeated, misplaced-by, absent, unfit-by, full-by, verdict, fault}
+use Rattle.plan.specs.Plans.{Field, size-by, size-in, lists, lists-by, begins-with, is-listed, chosen, opens, if-any, rule-by, rules-by, rules-in, repeated, misplaced-by, absent, unfit-by, full-by, verdict, fault}
 use Rattle.plan.specs.Drafts.{Holds}
-use Rattle.plan.proofs.Verdicts.{fault-is}
-use Rattle.plan.proofs.Behind.{longer, size-behind, listed-behind, opens-same, opens-new, rules-behind}
+use Rattle.plan.proofs.Verdicts.{none-some, fault-is}
+use Rattle.plan.proofs.Behind.{or-false, longer, size-behind, listed-behind, opens-same, opens-new, rules-behind}
 
 -- ---- what a listing says
 
@@ -43,9 +42,6 @@ pub record Listed (bytes : List ℕ) (n : ℕ) (l : Listing) : Type 0 where
   pub again : (ps : List Field) → repeated ps bytes ≡ is-listed ps (l .gate)
   pub row : (q : ℕ) → q < most-width → getD (l .row) q false ≡ covered (drop 1 bytes) q
 
-none-some : {X : Type 0} {x : X} → _≡_ {A = Option X} (Some x) None → ⊥
-none-some e = let z : _≡_ {A = ℕ} 0 1 = cc in omega arith
-
 row-is : (ranges : List ℕ) (w : ℕ) (row : List Bool) → Some row ≡ row-of ranges w → (q : ℕ) → q < most-width → getD row q false ≡ covered ranges q
 unfolding row-of
 row-is ranges w row e q h = go (sound ranges w) e
@@ -54,15 +50,15 @@ row-is ranges w row e q h = go (sound ranges w) e
     go true f =
         let r : row ≡ map (covered ranges) (counting 0 most-width) = cc in
         ap (λ (xs : List Bool). getD xs q false) r ∙ getD-map-counting (covered ranges) 0 most-width q q false h (omega arith)
-    go false f = absurd (none-some f)
+    go false f = absurd (none-some (sym f))
 
 pub listing-is : (bytes : List ℕ) (n w : ℕ) (l : Listing) → Some l ≡ listing-of bytes n w → Listed bytes n l
-listing-is [] n w l e = absurd (none-some e)
-listing-is (g ∷ ranges) n w l e = go (ltb g n) (λ t. lib.Dec.ltb→lt g n t) (row-of ranges w) refl e
+listing-is [] n w l e = absurd (none-some (sym e))
+listing-is (g ∷ ranges) n w l e = go (ltb g n) (λ t. ltb→lt g n t) (row-of ranges w) refl e
   where
-    go : (b : Bool) → (lib.Dec.T b → g < n) → (r : Option (List Bool)) → r ≡ row-of ranges w → Some l ≡ cond b (mapped (λ row. record { gate = g; row = row }) r) None → Listed (g ∷ ranges) n l
-    go false lt r is f = absurd (none-some f)
-    go true lt None is f = absurd (none-some f)
+    go : (b : Bool) → (T b → g < n) → (r : Option (List Bool)) → r ≡ row-of ranges w → Some l ≡ cond b (mapped (λ row. record { gate = g; row = row }) r) None → Listed (g ∷ ranges) n l
+    go false lt r is f = absurd (none-some (sym f))
+    go true lt None is f = absurd (none-some (sym f))
     go true lt (Some row) is f =
         let same : g ≡ l .gate = cc in
         let rows : row ≡ l .row = cc in
@@ -79,11 +75,7 @@ module _ (d : Draft) (ps : List Field) (h : Holds d ps) (p : Field) (next : Draf
     (gates : next .plan .gates ≡ d .plan .gates) (width : next .plan .width ≡ d .plan .width) (listed : next .listed ≡ d .listed) (starts : next .plan .starts ≡ d .plan .starts)
     (room : length (next .plan .rules) ≡ length (d .plan .rules)) (rules : rules-of (next .plan) ≡ rules-in ps ++ rule-by (size-in ps .gates) p) where
   unlisted : (g : ℕ) → is-listed (ps ++ (p ∷ [])) g ≡ is-listed ps g
-  unlisted g = listed-behind ps p g ∙ go (is-listed ps g) (lists g p) (quiet g)
-    where
-      go : (b c : Bool) → c ≡ false → (b || c) ≡ b
-      go true c e = refl
-      go false c e = e
+  unlisted g = listed-behind ps p g ∙ (ap (λ (b : Bool). is-listed ps g || b) (quiet g) ∙ or-false (is-listed ps g))
 
   quiet-held : Holds next (ps ++ (p ∷ []))
   quiet-held = record {
@@ -144,11 +136,7 @@ module _ (d : Draft) (ps : List Field) (h : Holds d ps) (p : Field) (e : p .kind
         go false = refl
 
     listed-elsewhere : (g : ℕ) → (g ≡ l .gate → ⊥) → is-listed (ps ++ (p ∷ [])) g ≡ is-listed ps g
-    listed-elsewhere g other = listed-behind ps p g ∙ (ap (λ (b : Bool). is-listed ps g || b) (elsewhere g other) ∙ go (is-listed ps g))
-      where
-        go : (b : Bool) → (b || false) ≡ b
-        go true = refl
-        go false = refl
+    listed-elsewhere g other = listed-behind ps p g ∙ (ap (λ (b : Bool). is-listed ps g || b) (elsewhere g other) ∙ or-false (is-listed ps g))
 
     small : l .gate < most-gates
     small = let b = is .below in omega arith
@@ -234,7 +222,7 @@ module _ (d : Draft) (p : Field) (size : Size) (e : p .kind ≡ Head) (is : head
   silent g = ap (λ (k : PlanKind). lists-by k g (p .bytes) || false) e
 
   all-open : (g q : ℕ) → opens (p ∷ []) g q ≡ true
-  all-open g q = ap (λ (b : Bool). not b || Rattle.plan.specs.Plans.chosen (p ∷ []) g q) (silent g)
+  all-open g q = ap (λ (b : Bool). not b || chosen (p ∷ []) g q) (silent g)
 
   pub first-held : Holds d (p ∷ [])
   first-held = record {

@@ -14,7 +14,7 @@ use Rattle.model.specs.declared.refusal.Refusal.{Refusal}
 use Rattle.text.specs.declared.fault.Fault.{Fault}
 use Rattle.text.specs.Fields.{refused, next-at}
 use Rattle.plan.specs.Plans.{Field, plan-field, is-end, load-in, fault, Reading, read-from, plan-text}
-use Rattle.plan.specs.Meanings.{Clean, start, more, Says, Fails, Means, Means-only}
+use Rattle.plan.specs.Meanings.{Clean, start, more, Fails, Means, Means-only}
 use Rattle.plan.proofs.Readings.{nothing-left, stands, stops, faulty, ended, goes-at, goes-on}
 
 by-reader : (text : List ℕ) (at : ℕ) (ps : List Field) (e : Fault) → Clean text ps at → plan-field text at ≡ Err e → Fails text e

@@ -11,7 +11,6 @@ use Rattle.std.specs.declared.option.Option.the-variants.{None, Some}
 use Rattle.std.specs.declared.result.Result.{Result}
 use Rattle.std.specs.declared.result.Result.the-variants.{Ok, Err}
 use Rattle.std.proofs.shelf.Tests.{cond-false, lt-leb}
-use Rattle.model.specs.Families.{Family}
 use Rattle.model.specs.Plans.{Load}
 use Rattle.model.specs.declared.refusal.Refusal.{Refusal}
 use Rattle.model.specs.declared.refusal.Refusal.the-variants.{Truncated}
@@ -23,7 +22,7 @@ use Rattle.text.specs.Fields.{refused, prefix-at, payload-at, with-kind, with-p
 use Rattle.text.specs.Kinds.{plan-kind}
 use Rattle.text.specs.Payloads.{head-of}
 use Rattle.plan.specs.declared.draft.Draft.{Draft}
-use Rattle.plan.specs.Views.{rules-of, load-of}
+use Rattle.plan.specs.Views.{load-of}
 use Rattle.plan.specs.Plans.{Field, plan-field, is-head, is-end, size-in, opens, rules-in, load-in, absent, unfit-by, full-by, verdict, fault, Reading, decided, asked, read-from, plan-text}
 use Rattle.plan.specs.Drafts.{Holds, Took, Underway, Begun, Stepped}
 use Rattle.plan.proofs.Verdicts.{differ}

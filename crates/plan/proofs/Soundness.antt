@@ -1,6 +1,6 @@
 -- What is read names only gates and positions that there are.
-use mathlib.Core.Bool.{Bool, true, false, _&&_, _||_, not, cond}
-use mathlib.Core.List.{List, [], _∷_, _++_, map, List·Memᴰ, List·Memᴰ·head, List·Memᴰ·tail, List·Memᴰ·not-nil}
+use mathlib.Core.Bool.{Bool, true, false, _&&_, not, cond}
+use mathlib.Core.List.{List, [], _∷_, _++_, List·Memᴰ·head, List·Memᴰ·tail, List·Memᴰ·not-nil}
 use mathlib.Core.Logic.{_⊎_, inl, inr, ⊎-elim}
 use mathlib.Core.Path.{_≡_, refl, sym, ap, subst, _∙_}
 use Prim.Native.Nat.{ℕ, _+_, _≤_, _<_}
@@ -28,41 +28,31 @@ use Rattle.text.specs.declared.kind.RuleKind.the-variants.{Offset, Near, NotAbo
 use Rattle.text.specs.Fields.{prefix-at, payload-at, with-kind, with-payload, with-prefix, field-at, next-at}
 use Rattle.text.specs.Kinds.{plan-kind}
 use Rattle.text.specs.Tests.{when, within}
-use Rattle.text.specs.Payloads.{two-gates, link-in, near-in, members-in, gates-below, members-of, quad-at, with-members, total-in, rule-in}
+use Rattle.text.specs.Payloads.{two-gates, link-in, members-in, gates-below, members-of, quad-at, with-members, rule-in}
 use Rattle.plan.specs.declared.Plan.{Plan}
 use Rattle.plan.specs.declared.read.Loaded.{Loaded}
-use Rattle.plan.specs.Views.{load-of, rules-of}
-use Rattle.plan.specs.Plans.{Field, plan-field, size-in, if-any, rules-by, rule-by, rules-in, load-in, Reading, plan-text}
+use Rattle.plan.specs.Views.{load-of}
+use Rattle.plan.specs.Plans.{Field, plan-field, size-in, if-any, rules-by, rule-by, load-in, plan-text}
 use Rattle.plan.specs.Drafts.{seen-plan}
 use Rattle.plan.specs.Meanings.{Means, Sound}
-use Rattle.plan.proofs.Verdicts.{differ}
+use Rattle.model.proofs.Tests.{left, right}
+use Rattle.plan.proofs.Verdicts.{differ, none-some}
 use Rattle.plan.proofs.Meaning.{means-only}
-
-none-some : {X : Type 0} {x : X} → _≡_ {A = Option X} None (Some x) → ⊥
-none-some e = let z : _≡_ {A = ℕ} 0 1 = cc in omega arith
 
 -- what is there passed its test
 passed : {X : Type 0} (b : Bool) (x y : X) → when b x ≡ Some y → T b × (x ≡ y)
 passed true x y e = (tt, cc)
 passed false x y e = absurd (none-some e)
 
-both-left : (a b : Bool) → T (a && b) → T a
-both-left true b t = tt
-both-left false b t = t
-
-both-right : (a b : Bool) → T (a && b) → T b
-both-right true b t = t
-both-right false b t = absurd t
-
 gates-named : (n x y : ℕ) → T (two-gates n x y) → (x < n) × (y < n)
 gates-named n x y t =
-    (ltb→lt x n (both-left (ltb x n) (ltb y n && not (eqb x y)) t), ltb→lt y n (both-left (ltb y n) (not (eqb x y)) (both-right (ltb x n) (ltb y n && not (eqb x y)) t)))
+    (ltb→lt x n (left (ltb x n) (ltb y n && not (eqb x y)) t), ltb→lt y n (left (ltb y n) (not (eqb x y)) (right (ltb x n) (ltb y n && not (eqb x y)) t)))
 
 link-named : (bytes : List ℕ) (n : ℕ) (l : ℕ × ℕ × ℤ) → link-in bytes n ≡ Some l → (l .0 < n) × (l .1 < n)
 link-named bytes n l e =
     let p = passed (eqb (length bytes) 4 && (two-gates n (getD bytes 0 0) (getD bytes 1 0) && _)) _ l e in
     subst (λ (k : ℕ × ℕ × ℤ). (k .0 < n) × (k .1 < n)) (p .1)
-    (gates-named n (getD bytes 0 0) (getD bytes 1 0) (both-left (two-gates n (getD bytes 0 0) (getD bytes 1 0)) _ (both-right (eqb (length bytes) 4) _ (p .0))))
+    (gates-named n (getD bytes 0 0) (getD bytes 1 0) (left (two-gates n (getD bytes 0 0) (getD bytes 1 0)) _ (right (eqb (length bytes) 4) _ (p .0))))
 
 linked : (bytes : List ℕ) (n : ℕ) (rule : ℕ → ℕ → ℤ → Law) → ((x y : ℕ) (c : ℤ) → (x < n) × (y < n) → Names-below n (rule x y c))
     → (o : Option (ℕ × ℕ × ℤ)) → link-in bytes n ≡ o → (r : Law) → mapped (λ l. rule (l .0) (l .1) (l .2)) o ≡ Some r → Names-below n r
@@ -73,8 +63,8 @@ linked bytes n rule names (Some l) is r e =
 
 members-below : (n : ℕ) (ms : List (ℕ × ℕ)) → T (gates-below n ms) → (m : ℕ × ℕ) → m ∈ ms → m .0 < n
 members-below n [] t m i = absurd (List·Memᴰ·not-nil i)
-members-below n (k ∷ ms) t m (List·Memᴰ·head e) = subst (λ (j : ℕ × ℕ). j .0 < n) (sym e) (ltb→lt (k .0) n (both-left (ltb (k .0) n) (gates-below n ms) t))
-members-below n (k ∷ ms) t m (List·Memᴰ·tail i) = members-below n ms (both-right (ltb (k .0) n) (gates-below n ms) t) m i
+members-below n (k ∷ ms) t m (List·Memᴰ·head e) = subst (λ (j : ℕ × ℕ). j .0 < n) (sym e) (ltb→lt (k .0) n (left (ltb (k .0) n) (gates-below n ms) t))
+members-below n (k ∷ ms) t m (List·Memᴰ·tail i) = members-below n ms (right (ltb (k .0) n) (gates-below n ms) t) m i
 
 some-member : (ms : List (ℕ × ℕ)) → 1 ≤ length ms → (m : ℕ × ℕ) × (m ∈ ms)
 some-member [] h = absurd (omega arith)
@@ -84,10 +74,10 @@ members-named : (bytes : List ℕ) (n : ℕ) (ms : List (ℕ × ℕ)) → member
 members-named bytes n ms e =
     let all = members-in bytes in
     let p = passed (within 1 most-members (length (members-in bytes)) && (gates-below n (members-in bytes) && gates-differ (members-in bytes))) (members-in bytes) ms e in
-    let w = both-left (within 1 most-members (length (members-in bytes))) _ (p .0) in
-    let b = both-left (gates-below n (members-in bytes)) (gates-differ (members-in bytes)) (both-right (within 1 most-members (length (members-in bytes))) _ (p .0)) in
+    let w = left (within 1 most-members (length (members-in bytes))) _ (p .0) in
+    let b = left (gates-below n (members-in bytes)) (gates-differ (members-in bytes)) (right (within 1 most-members (length (members-in bytes))) _ (p .0)) in
     subst (λ (ks : List (ℕ × ℕ)). ((m : ℕ × ℕ) × (m ∈ ks)) × ((m : ℕ × ℕ) → m ∈ ks → m .0 < n)) (p .1)
-    (some-member all (leb→le 1 (length all) (both-left (leb 1 (length all)) (leb (length all) most-members) w)), members-below n all b)
+    (some-member all (leb→le 1 (length all) (left (leb 1 (length all)) (leb (length all) most-members) w)), members-below n all b)
 
 total-named : (bytes : List ℕ) (n low high : ℕ) (o : Option (List (ℕ × ℕ))) → members-of bytes n ≡ o → (r : Law) → with-members low high o ≡ Some r → Names-below n r
 total-named bytes n low high None is r e = absurd (none-some e)
@@ -100,7 +90,7 @@ rule-named Offset bytes n r e = linked bytes n offset (λ x y c h. h) (link-in b
 rule-named NotAbove bytes n r e = linked bytes n not-above (λ x y c h. h) (link-in bytes n) refl r e
 rule-named Near bytes n r e =
     let p = passed (eqb (length bytes) 3 && two-gates n (getD bytes 0 0) (getD bytes 1 0)) (near (getD bytes 0 0) (getD bytes 1 0) (getD bytes 2 0)) r e in
-    subst (Names-below n) (p .1) (gates-named n (getD bytes 0 0) (getD bytes 1 0) (both-right (eqb (length bytes) 3) (two-gates n (getD bytes 0 0) (getD bytes 1 0)) (p .0)))
+    subst (Names-below n) (p .1) (gates-named n (getD bytes 0 0) (getD bytes 1 0) (right (eqb (length bytes) 3) (two-gates n (getD bytes 0 0) (getD bytes 1 0)) (p .0)))
 rule-named Total bytes n r e = go (leb 8 (length bytes) && leb (quad-at bytes 0) (quad-at bytes 4)) e
   where
     go : (b : Bool) → cond b (with-members (quad-at bytes 0) (quad-at bytes 4) (members-of (drop 8 bytes) n)) None ≡ Some r → Names-below n r
@@ -170,8 +160,8 @@ load-sound p named =
       few-rules = let few = p .ruled in let k = length-map (take (p .count) (p .rules)) rule-of in let t = length-take (p .count) (p .rules) in omega arith;
       named = named;
       inside = λ g q t. (
-        ltb→lt g (p .gates) (both-left (ltb g (p .gates)) _ t),
-        ltb→lt q (p .width) (both-left (ltb q (p .width)) _ (both-right (ltb g (p .gates)) _ t)),
+        ltb→lt g (p .gates) (left (ltb g (p .gates)) _ t),
+        ltb→lt q (p .width) (left (ltb q (p .width)) _ (right (ltb g (p .gates)) _ t)),
       );
     }
 

@@ -9,7 +9,6 @@ use Rattle.std.specs.declared.option.Option.{Option}
 use Rattle.std.specs.declared.option.Option.the-variants.{None, Some}
 use Rattle.std.specs.declared.result.Result.{Result}
 use Rattle.std.specs.declared.result.Result.the-variants.{Ok, Err}
-use Rattle.model.specs.declared.refusal.Refusal.{Refusal}
 use Rattle.text.specs.declared.fault.Fault.{Fault}
 use Rattle.plan.specs.Plans.{Field, size-in, rules-in, absent, misplaced, misplaced-by, unfit-by, full-by, verdict, fault}
 use Rattle.plan.specs.declared.draft.Draft.{Draft}
@@ -17,6 +16,9 @@ use Rattle.plan.specs.Drafts.{judged, Took}
 
 pub differ : {X Y : Type 0} {x : X} {y : Y} → _≡_ {A = Result X Y} (Ok x) (Err y) → ⊥
 differ e = let z : _≡_ {A = ℕ} 0 1 = cc in omega arith
+
+pub none-some : {X : Type 0} {x : X} → _≡_ {A = Option X} None (Some x) → ⊥
+none-some e = let z : _≡_ {A = ℕ} 0 1 = cc in omega arith
 
 -- an accepted field is well placed, gave something, and had room
 pub accepted : {X : Type 0} (place : ℕ) (m : Bool) (x : Option X) (f : Bool) (y : X) → Ok y ≡ judged place m x f → (m ≡ false) × (x ≡ Some y) × (f ≡ false)

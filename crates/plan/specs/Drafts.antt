@@ -9,7 +9,6 @@ use Rattle.std.specs.declared.option.Option.the-variants.{None, Some}
 use Rattle.std.specs.declared.result.Result.{Result}
 use Rattle.std.specs.declared.result.Result.the-variants.{Ok, Err}
 use Rattle.model.specs.Bounds.{most-gates, most-width, most-rules}
-use Rattle.model.specs.declared.refusal.Refusal.{Refusal}
 use Rattle.model.specs.declared.refusal.Refusal.the-variants.{Misplaced, OutOfRange, TooManyRules}
 use Rattle.text.specs.declared.fault.Fault.{Fault}
 use Rattle.text.specs.Fields.{refused}

@@ -10,7 +10,6 @@ use Rattle.std.specs.declared.option.Option.the-variants.{None, Some}
 use Rattle.std.specs.declared.result.Result.{Result}
 use Rattle.std.specs.declared.result.Result.the-variants.{Ok, Err}
 use Rattle.model.specs.Bounds.{most-rules}
-use Rattle.model.specs.Families.{Family}
 use Rattle.model.specs.Rules.{Rule as Law}
 use Rattle.model.specs.Plans.{Load}
 use Rattle.model.specs.declared.refusal.Refusal.{Refusal}

@@ -1,7 +1,6 @@
 -- What a plan as the code holds it stands for.
 use mathlib.Core.Bool.{false, _&&_}
 use mathlib.Core.List.{List, [], map}
-use Prim.Native.Nat.{ℕ}
 use lib.Dec.{ltb}
 use lib.ListN.{take, getD}
 use Rattle.model.specs.Rules.{Rule, rule-of}

@@ -4,5 +4,4 @@ ghost use Rattle.plan.specs.Trials.{Text-trials};
 /// The empty text, the worked example, and a first fault.
 pub fn text_trials_stand()
     ensures { λ _. ⌜ Text-trials ⌝ }
-{
-}
+{}

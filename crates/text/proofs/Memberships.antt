@@ -1,10 +1,10 @@
 -- Members with gates that differ, as a loop that adds one after another has them.
 use mathlib.Core.Path.{_≡_, refl, sym, ap, subst, _∙_}
 use mathlib.Core.List.{List, [], _∷_, _++_, map, append-nil}
-use mathlib.Core.Bool.{Bool, true, false, cond, _&&_, _||_, not}
+use mathlib.Core.Bool.{true, false, cond, _&&_, _||_}
 use Prim.Native.Nat.{ℕ, _+_, _-_, _≤_, _<_}
 use native.Mathlib.Omega.{arith}
-use lib.Dec.{leb, ltb, eqb}
+use lib.Dec.{leb}
 use lib.ListN.{length, take, drop, getD, set}
 use Rattle.std.specs.declared.option.Option.{Option}
 use Rattle.std.specs.declared.option.Option.the-variants.{Some, None}
@@ -13,7 +13,7 @@ use Rattle.std.proofs.shelf.Ways.{tells}
 use Rattle.std.proofs.shelf.Tests.{and-left, and-right, lt-leb, le-leb, cond-false, cond-true, and-from}
 use Rattle.model.specs.Bounds.{most-members}
 use Rattle.model.specs.Members.{member-of, has-gate, gates-differ}
-use Rattle.model.specs.Rules.{Rule, total}
+use Rattle.model.specs.Rules.{total}
 use Rattle.model.specs.declared.rule.member.Member.{Member}
 use Rattle.text.specs.Tests.{within}
 use Rattle.text.specs.Payloads.{members-in, gates-below, members-of, quad-at, with-members, total-in}

@@ -3,6 +3,7 @@ ghost use Prim.Native.Nat.{_≤_};
 ghost use denote.Ref.{now as held};
 ghost use lib.ListN.{length};
 
+mod place;
 mod walk;
 
 /// Hands out the fields of a text, one a call.

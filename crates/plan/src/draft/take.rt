@@ -1,3 +1,4 @@
+// One field more.
 ghost use mathlib.Core.List.{List, [], _∷_};
 ghost use mathlib.Core.Path.{_≡_};
 ghost use Prim.Native.Nat.{_≤_};
@@ -110,7 +111,7 @@ impl Draft {
         Ok(true)
     }
 
-    /// Takes no second Head.
+    /// A second Head is misplaced, whatever it says.
     fn take_head(&self, field: &Field<PlanKind>) -> Result<bool, Fault>
         requires { ⌜ now field .kind ≡ headKind ⌝ }
         ensures { λ r. ⌜ ((ps : List Part) → Holds (now (self .entry)) ps → Took (now (self .entry)) ps (part (now (field .entry))) r) ⌝ }

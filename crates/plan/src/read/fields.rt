@@ -1,3 +1,4 @@
+// From a text's bytes to its plan.
 ghost use mathlib.Core.Bool.{true};
 ghost use mathlib.Core.List.{List};
 ghost use mathlib.Core.Path.{_≡_};
@@ -16,6 +17,7 @@ use text::kind::PlanKind;
 use text::kind::PlanKinds;
 use text::reader::Reader;
 
+/// Whether a field is Head.
 fn is_head(kind: PlanKind) -> bool
     ensures { λ r. ⌜ r ≡ is-head kind ⌝ }
 {

@@ -1,5 +1,6 @@
+// One field after another.
 ghost use mathlib.Core.Path.{_≡_};
-ghost use Prim.Native.Nat.{_+_, _≤_, min};
+ghost use Prim.Native.Nat.{_+_, _≤_};
 ghost use lib.ListN.{length};
 ghost use Rattle.std.specs.Options.{mapped};
 ghost use Rattle.std.specs.Slices.{found};
@@ -47,17 +48,15 @@ fn field_at<'a, K: Kinds>(text: &'a [u8], place: usize) -> Result<Field<'a, K>, 
     ensures value { λ r. ⌜ seen r ≡ field-at (K·Kinds .made) (now (text .entry)) place ⌝ }
     ensures inside { λ r. ⌜ next-at (seen r) place ≤ length (now (text .entry)) ⌝ }
 {
+    let missing = Fault {
+        refusal: Refusal::Truncated,
+        place,
+    };
     let Some((tag, len)) = prefix(text, place) else {
-        return Err(Fault {
-            refusal: Refusal::Truncated,
-            place,
-        });
+        return Err(missing);
     };
     let Some(payload) = payload(text, place, len) else {
-        return Err(Fault {
-            refusal: Refusal::Truncated,
-            place,
-        });
+        return Err(missing);
     };
     match K::of(tag, len) {
         Ok(kind) => Ok(Field {
@@ -70,32 +69,6 @@ fn field_at<'a, K: Kinds>(text: &'a [u8], place: usize) -> Result<Field<'a, K>, 
 }
 
 impl<'a> Reader<'a> {
-    /// A reader at the start of a text.
-    pub fn new(text: &'a [u8]) -> Reader<'a>
-        ensures text { λ r. ⌜ text-of r ≡ now (text .entry) ⌝ }
-        ensures at { λ r. ⌜ place-of r ≡ 0 ⌝ }
-    {
-        Reader { text, at: 0 }
-    }
-
-    /// A reader at a place of a text, or at the end of one that is shorter.
-    pub fn at(text: &'a [u8], place: usize) -> Reader<'a>
-        ensures text { λ r. ⌜ text-of r ≡ now (text .entry) ⌝ }
-        ensures at { λ r. ⌜ place-of r ≡ min place (length (now (text .entry))) ⌝ }
-    {
-        Reader {
-            text,
-            at: place.min(text.len()),
-        }
-    }
-
-    /// How far the text was read.
-    pub fn place(&self) -> usize
-        ensures { λ r. ⌜ r ≡ place-of (now (self .entry)) ⌝ }
-    {
-        self.at
-    }
-
     /// The next field, behind which the reader then stands, or a fault, which leaves it where it was.
     pub fn next<K: Kinds>(&mut self) -> Result<Field<'a, K>, Fault>
         ensures value { λ r. ⌜ seen r ≡ field-at (K·Kinds .made) (text-of (now (self .entry))) (place-of (now (self .entry))) ⌝ }

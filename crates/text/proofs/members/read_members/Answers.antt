@@ -9,7 +9,7 @@ use lib.ListN.{length, take, getD, length-append, length-map}
 use lib.Seq.{length-take-le}
 use Rattle.model.specs.Members.{member-of, has-gate, gates-differ}
 use Rattle.model.specs.declared.rule.member.Member.{Member}
-use Rattle.text.specs.Payloads.{members-in, gates-below}
+use Rattle.text.specs.Payloads.{gates-below}
 use Rattle.text.proofs.Memberships.{members-peel, differ-push, differ-twice, below-push, below-high, too-many, too-few, too-high, twice, are-all, all-held, held-push, one-more}
 use Rattle.text.proofs.members.read_members.Needs as need
 use Rattle.text.proofs.members.read_members.Needs.{then-count-ge-MEMBERS·by·then-count-ge-MEMBERS, then-count-ge-MEMBERS·by·else-count-ge-MEMBERS·then-from-gates, then-count-ge-MEMBERS·by·else-count-ge-MEMBERS·else-from-gates·then-is-member}
