@@ -17,7 +17,7 @@ use Rattle.model.specs.Plans.{Plan}
 use Rattle.model.specs.Settings.{at, Permitted, Before, First}
 use Rattle.model.specs.Calls.{strike, keep}
 use Rattle.model.specs.Ledgers.{narrowed}
-use Rattle.model.specs.Trials.{trial, rows, settled-trial, Trials}
+use Rattle.model.specs.Trials.{worked, rows, worked-settled, Trials}
 use Rattle.model.proofs.Tests.{both, left, right, taken, one-of}
 use Rattle.model.proofs.Sieve.{offset-test, near-test, not-above-test, near-sound, near-complete, same-sound, same-complete}
 use Rattle.model.proofs.Settles.{all-support, sieved, sieved-contains, unsieved-settled, last-or-before}
@@ -193,10 +193,10 @@ rows-box w [] h g p t = absurd t
 rows-box w (ps ∷ ls) h zero p t = (omega arith, under-is w ps (left (all-under w ps) (rows-under w ls) h) p t)
 rows-box w (ps ∷ ls) h (suc g) p t = let r = rows-box w ls (right (all-under w ps) (rows-under w ls) h) g p t in let a = r .0 in (omega arith, r .1)
 
-start-box : Box 3 5 (trial .start)
+start-box : Box 3 5 (worked .start)
 start-box g p t = (ltb→lt g 3 (left (ltb g 3) (ltb p 5) t), ltb→lt p 5 (right (ltb g 3) (ltb p 5) t))
 
-settled-box : Box 3 5 settled-trial
+settled-box : Box 3 5 worked-settled
 settled-box g p t = rows-box 5 ((0 ∷ 1 ∷ 2 ∷ 3 ∷ []) ∷ (1 ∷ 2 ∷ 3 ∷ 4 ∷ []) ∷ (0 ∷ 1 ∷ 2 ∷ 3 ∷ []) ∷ []) tt g p t
 
 pub trials : Trials
@@ -204,9 +204,9 @@ trials =
     record {
       below = record { le = tt };
       not-level = λ h. h .le;
-      settle = largest-tried 3 5 (trial .plan .rules) (trial .start) settled-trial start-box settled-box tt tt tt;
-      solve = first-tried (trial .plan) settled-trial (1 ∷ 2 ∷ 2 ∷ []) settled-box refl tt tt;
-      solve-struck = none-tried (trial .plan) (narrowed (strike 2 2) settled-trial) (λ g p t. settled-box g p (left (settled-trial g p) _ t)) tt;
-      dead = largest-tried 3 5 (trial .plan .rules) (narrowed (keep 2 []) (trial .start)) (rows [])
-          (λ g p t. start-box g p (left (trial .start g p) _ t)) (λ g p t. absurd t) tt tt tt;
+      settle = largest-tried 3 5 (worked .plan .rules) (worked .start) worked-settled start-box settled-box tt tt tt;
+      solve = first-tried (worked .plan) worked-settled (1 ∷ 2 ∷ 2 ∷ []) settled-box refl tt tt;
+      solve-struck = none-tried (worked .plan) (narrowed (strike 2 2) worked-settled) (λ g p t. settled-box g p (left (worked-settled g p) _ t)) tt;
+      dead = largest-tried 3 5 (worked .plan .rules) (narrowed (keep 2 []) (worked .start)) (rows [])
+          (λ g p t. start-box g p (left (worked .start g p) _ t)) (λ g p t. absurd t) tt tt tt;
     }

@@ -1,4 +1,4 @@
--- For a solve that tries positions in order: which step keeps the answer, and when a setting is found or there is None.
+-- For a solve that tries positions in order: which step keeps the answer, and when a setting is found or there is none.
 use mathlib.Core.Path.{_≡_, refl, sym, _∙_, ap, subst}
 use mathlib.Core.Bool.{_&&_}
 use mathlib.Core.List.{List, [], _∷_}

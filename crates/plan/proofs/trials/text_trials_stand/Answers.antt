@@ -4,7 +4,7 @@ use lib.Dec.{ltb}
 use Rattle.std.specs.declared.result.Result.{Result}
 use Rattle.std.specs.declared.result.Result.the-variants.{Ok}
 use Rattle.model.specs.Families.{Family}
-use Rattle.model.specs.Trials.{trial}
+use Rattle.model.specs.Trials.{worked}
 use Rattle.text.specs.declared.fault.Fault.{Fault}
 use Rattle.text.specs.Fields.{field-at}
 use Rattle.plan.specs.Plans.{load-in, fault, read-from, Reading}
@@ -15,12 +15,12 @@ and-true : (b : Bool) → (b && true) ≡ b
 and-true true = refl
 and-true false = refl
 
-all-open : _≡_ {A = Family} (λ g q. ltb g 3 && (ltb q 5 && true)) (trial .start)
+all-open : _≡_ {A = Family} (λ g q. ltb g 3 && (ltb q 5 && true)) (worked .start)
 all-open = fun-ext (λ g. fun-ext (λ q. ap (λ (b : Bool). ltb g 3 && b) (and-true (ltb q 5))))
 
 read-so : Family → Result Reading Fault
-read-so start = Ok (record { load = record { plan = trial .plan; start = start }; read = 39 })
+read-so start = Ok (record { load = record { plan = worked .plan; start = start }; read = 39 })
 
 pub returns : need.returns
 unfolding field-at load-in fault read-from read-so
-returns c = record { empty = refl; worked = ap read-so all-open; behind = ap read-so all-open; unknown = refl }
+returns c = record { empty = refl; whole = ap read-so all-open; behind = ap read-so all-open; unknown = refl }
