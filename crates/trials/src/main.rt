@@ -3,6 +3,8 @@
 // Of a case whose name begins with `+` the plan is told too: what each gate starts with, and the rules.
 use console::output;
 use model::rule::Rule;
+use model::rule::Total;
+use model::rule::pair::Pair;
 use plan::Plan;
 use plan::read::read_plan;
 use std::error::AnyError;
@@ -30,22 +32,36 @@ fn tell_starts(rt: &LibcRuntime, name: &str, plan: &Plan, gate: usize) -> Result
     Ok(())
 }
 
-fn tell_rule(rt: &LibcRuntime, name: &str, number: usize, rule: Rule) -> Result<(), AnyError> {
-    print!(rt, "{name}: rule {number}:")?;
-    match rule {
-        Rule::Offset(r) => println!(rt, " offset {} {} {}", r.pair.x, r.pair.y, r.c)?,
-        Rule::Near(r) => println!(rt, " near {} {} {}", r.pair.x, r.pair.y, r.d)?,
-        Rule::NotAbove(r) => println!(rt, " not above {} {} {}", r.pair.x, r.pair.y, r.c)?,
-        Rule::Total(r) => {
-            print!(rt, " total {} {}", r.low, r.high)?;
-            let members = r.members;
-            for m in members.list.iter().take(members.count) {
-                print!(rt, " {}*{}", m.gate, m.weight)?;
-            }
-            println!(rt, "")?;
-        }
-    }
+fn tell_pair(
+    rt: &LibcRuntime,
+    start: &str,
+    word: &str,
+    pair: Pair,
+    number: i16,
+) -> Result<(), AnyError> {
+    println!(rt, "{start} {word} {} {} {number}", pair.x, pair.y)?;
     Ok(())
+}
+
+fn tell_total(rt: &LibcRuntime, start: &str, total: &Total) -> Result<(), AnyError> {
+    print!(rt, "{start} total {} {}", total.low, total.high)?;
+    let members = total.members;
+    for m in members.list.iter().take(members.count) {
+        print!(rt, " {}*{}", m.gate, m.weight)?;
+    }
+    println!(rt, "")?;
+    Ok(())
+}
+
+fn tell_rule(rt: &LibcRuntime, name: &str, number: usize, rule: Rule) -> Result<(), AnyError> {
+    let line = format!(rt.alloc(), "{name}: rule {number}:")?;
+    let start = line.as_str();
+    match rule {
+        Rule::Offset(r) => tell_pair(rt, start, "offset", r.pair, r.c),
+        Rule::Near(r) => tell_pair(rt, start, "near", r.pair, i16::from(r.d)),
+        Rule::NotAbove(r) => tell_pair(rt, start, "not above", r.pair, r.c),
+        Rule::Total(r) => tell_total(rt, start, &r),
+    }
 }
 
 fn tell_plan(rt: &LibcRuntime, name: &str, input: &[u8]) -> Result<(), AnyError> {
