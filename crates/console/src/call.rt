@@ -9,7 +9,10 @@ pub enum CallKind {}
 pub impl Kinds for CallKind as CallKinds {
     ghost made = { call-kind };
 
-    fn of(tag: u8, len: u16) -> Result<CallKind, Refusal> {
-        Err(Refusal::UnknownTag)
+    fn of(tag: u8, len: u16, left: usize) -> Result<CallKind, Refusal> {
+        match (tag, len) {
+            _ if left < usize::from(len) => Err(Refusal::Truncated),
+            _ => Err(Refusal::UnknownTag),
+        }
     }
 }

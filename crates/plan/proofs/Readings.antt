@@ -2,10 +2,10 @@
 use mathlib.Core.Bool.{Bool, true, false, _&&_, not}
 use mathlib.Core.List.{List, [], _∷_, _++_}
 use mathlib.Core.Path.{_≡_, refl, sym, ap, subst, _∙_, fun-ext}
-use Prim.Native.Nat.{ℕ, zero, suc, _+_, _≤_, _<_}
+use Prim.Native.Nat.{ℕ, zero, suc, _+_, _-_, _≤_, _<_}
 use native.Mathlib.Omega.{arith}
 use lib.Dec.{T, ltb, ltb→lt}
-use lib.ListN.{length, getD}
+use lib.ListN.{length, take, drop, getD}
 use Rattle.std.specs.declared.option.Option.{Option}
 use Rattle.std.specs.declared.option.Option.the-variants.{None, Some}
 use Rattle.std.specs.declared.result.Result.{Result}
@@ -18,8 +18,9 @@ use Rattle.text.specs.declared.fault.Fault.{Fault}
 use Rattle.text.specs.declared.head.Head.{Head as Size}
 use Rattle.text.specs.declared.kind.PlanKind.{PlanKind}
 use Rattle.text.specs.declared.kind.PlanKind.the-variants.{Head, Positions, Rule, End}
-use Rattle.text.specs.Fields.{refused, prefix-at, payload-at, with-kind, with-payload, with-prefix, field-at, next-at}
+use Rattle.text.specs.Fields.{refused, prefix-at, with-kind, with-prefix, field-at, next-at}
 use Rattle.text.specs.Kinds.{plan-kind}
+use Rattle.text.specs.Lengths.{with-payload}
 use Rattle.text.specs.Payloads.{head-of}
 use Rattle.plan.specs.declared.draft.Draft.{Draft}
 use Rattle.plan.specs.Views.{load-of}
@@ -46,13 +47,9 @@ kind-stands at (Err why) bytes = record { ok = λ x e. absurd (differ (sym e)); 
 missing : (at : ℕ) → Stands-at at (λ (p : Field). p .place) (refused Truncated at)
 missing at = record { ok = λ x e. absurd (differ (sym e)); err = λ e f. cc }
 
-payload-stands : (at : ℕ) (made : Result PlanKind Refusal) (bytes : Option (List ℕ)) → Stands-at at (λ (p : Field). p .place) (with-payload made at bytes)
-payload-stands at made None = missing at
-payload-stands at made (Some bytes) = kind-stands at made bytes
-
 prefix-stands : (text : List ℕ) (at : ℕ) (pre : Option (ℕ × ℕ)) → Stands-at at (λ (p : Field). p .place) (with-prefix plan-kind text at pre)
 prefix-stands text at None = missing at
-prefix-stands text at (Some pre) = payload-stands at (plan-kind (pre .0) (pre .1)) (payload-at text at (pre .1))
+prefix-stands text at (Some pre) = kind-stands at (with-payload plan-kind (pre .0) (pre .1) (length text - (at + 3))) (take (pre .1) (drop (at + 3) text))
 
 pub stands : (text : List ℕ) (at : ℕ) → Stands-at at (λ (p : Field). p .place) (plan-field text at)
 unfolding field-at

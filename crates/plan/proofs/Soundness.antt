@@ -3,7 +3,7 @@ use mathlib.Core.Bool.{Bool, true, false, _&&_, not, cond}
 use mathlib.Core.List.{List, [], _∷_, _++_, List·Memᴰ·head, List·Memᴰ·tail, List·Memᴰ·not-nil}
 use mathlib.Core.Logic.{_⊎_, inl, inr, ⊎-elim}
 use mathlib.Core.Path.{_≡_, refl, sym, ap, subst, _∙_}
-use Prim.Native.Nat.{ℕ, _+_, _≤_, _<_}
+use Prim.Native.Nat.{ℕ, _+_, _-_, _≤_, _<_}
 use native.Mathlib.Omega.{arith}
 use lib.Dec.{T, eqb, leb, ltb, ltb→lt, leb→le}
 use lib.IntN.{ℤ}
@@ -20,13 +20,15 @@ use Rattle.model.specs.Members.{gates-differ}
 use Rattle.model.specs.Rules.{Rule as Law, offset, near, not-above, total, rule-of}
 use Rattle.model.specs.Plans.{Names-below, Load, Well-named, Sound-load}
 use Rattle.model.specs.declared.refusal.Refusal.{Refusal}
+use Rattle.model.specs.declared.refusal.Refusal.the-variants.{Truncated}
 use Rattle.text.specs.declared.fault.Fault.{Fault}
 use Rattle.text.specs.declared.kind.PlanKind.{PlanKind}
 use Rattle.text.specs.declared.kind.PlanKind.the-variants.{Head, Positions, Rule, End}
 use Rattle.text.specs.declared.kind.RuleKind.{RuleKind}
 use Rattle.text.specs.declared.kind.RuleKind.the-variants.{Offset, Near, NotAbove, Total}
-use Rattle.text.specs.Fields.{prefix-at, payload-at, with-kind, with-payload, with-prefix, field-at, next-at}
+use Rattle.text.specs.Fields.{prefix-at, with-kind, with-prefix, field-at, next-at}
 use Rattle.text.specs.Kinds.{plan-kind}
+use Rattle.text.specs.Lengths.{with-payload}
 use Rattle.text.specs.Tests.{when, within}
 use Rattle.text.specs.Payloads.{two-gates, link-in, members-in, gates-below, members-of, quad-at, with-members, rule-in}
 use Rattle.plan.specs.declared.Plan.{Plan}
@@ -35,6 +37,7 @@ use Rattle.plan.specs.Views.{load-of}
 use Rattle.plan.specs.Plans.{Field, plan-field, size-in, if-any, rules-by, rule-by, load-in, plan-text}
 use Rattle.plan.specs.Drafts.{seen-plan}
 use Rattle.plan.specs.Meanings.{Means, Sound}
+use borrow.Author.Tests.{ltb-false}
 use Rattle.model.proofs.Tests.{left, right}
 use Rattle.plan.proofs.Verdicts.{differ, none-some}
 use Rattle.plan.proofs.Meaning.{means-only}
@@ -126,29 +129,27 @@ unfolding load-in
 load-named ps r i = fields-named (size-in ps .gates) ps r i
 
 -- a field lies within its text
-payload-inside : (text : List ℕ) (at len : ℕ) (bytes : List ℕ) → payload-at text at len ≡ Some bytes → at + 3 + length bytes ≤ length text
-payload-inside text at len bytes e =
-    let p = passed (leb (at + 3 + len) (length text)) (take len (drop (at + 3) text)) bytes e in
-    let h = leb→le (at + 3 + len) (length text) (p .0) in
-    let k = ap length (sym (p .1)) ∙ length-take len (drop (at + 3) text) in
-    omega arith
-
 kind-bytes : (made : Result PlanKind Refusal) (at : ℕ) (bytes : List ℕ) (p : Field) → with-kind made at bytes ≡ Ok p → p .bytes ≡ bytes
 kind-bytes (Ok k) at bytes p e = cc
 kind-bytes (Err why) at bytes p e = absurd (differ (sym e))
 
-by-payload : (text : List ℕ) (at len : ℕ) (made : Result PlanKind Refusal) (o : Option (List ℕ)) (p : Field) → payload-at text at len ≡ o → with-payload made at o ≡ Ok p → at + 3 + length (p .bytes) ≤ length text
-by-payload text at len made None p is e = absurd (differ (sym e))
-by-payload text at len made (Some bytes) p is e =
-    subst (λ (bs : List ℕ). at + 3 + length bs ≤ length text) (sym (kind-bytes made at bytes p e)) (payload-inside text at len bytes is)
+-- its payload is there
+payload-left : (missing : Bool) (made : Result PlanKind Refusal) (at : ℕ) (bytes : List ℕ) (p : Field) → with-kind (cond missing (Err Truncated) made) at bytes ≡ Ok p → missing ≡ false
+payload-left true made at bytes p e = absurd (differ (sym e))
+payload-left false made at bytes p e = refl
 
-by-prefix : (text : List ℕ) (at : ℕ) (o : Option (ℕ × ℕ)) (p : Field) → with-prefix plan-kind text at o ≡ Ok p → at + 3 + length (p .bytes) ≤ length text
-by-prefix text at None p e = absurd (differ (sym e))
-by-prefix text at (Some pre) p e = by-payload text at (pre .1) (plan-kind (pre .0) (pre .1)) (payload-at text at (pre .1)) p refl e
+by-prefix : (text : List ℕ) (at : ℕ) (o : Option (ℕ × ℕ)) → o ≡ prefix-at text at → (p : Field) → with-prefix plan-kind text at o ≡ Ok p → at + 3 + length (p .bytes) ≤ length text
+by-prefix text at None is p e = absurd (differ (sym e))
+by-prefix text at (Some pre) is p e =
+    let three = leb→le (at + 3) (length text) (passed (leb (at + 3) (length text)) _ pre (sym is) .0) in
+    let left = length text - (at + 3) in
+    let there = ltb-false left (pre .1) (payload-left (ltb left (pre .1)) (plan-kind (pre .0) (pre .1)) at _ p e) in
+    let bytes = ap length (kind-bytes (with-payload plan-kind (pre .0) (pre .1) left) at _ p e) ∙ length-take (pre .1) (drop (at + 3) text) in
+    omega arith
 
 field-inside : (text : List ℕ) (at : ℕ) (p : Field) → plan-field text at ≡ Ok p → next-at (Ok p) at ≤ length text
 unfolding field-at
-field-inside text at p e = by-prefix text at (prefix-at text at) p e
+field-inside text at p e = by-prefix text at (prefix-at text at) refl p e
 
 load-sound : (p : Plan) → Well-named (load-of p .plan) → Sound-load (load-of p)
 load-sound p named =

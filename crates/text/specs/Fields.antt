@@ -1,6 +1,6 @@
 -- A text as fields: a one-byte tag, a two-byte length with the high byte first, and a payload of that length.
 use mathlib.Core.List.{List}
-use Prim.Native.Nat.{ℕ, _+_, _*_}
+use Prim.Native.Nat.{ℕ, _+_, _*_, _-_}
 use lib.Dec.{leb}
 use lib.ListN.{length, take, drop, getD}
 use Rattle.std.specs.declared.option.Option.{Option}
@@ -9,6 +9,7 @@ use Rattle.std.specs.declared.result.Result.{Result}
 use Rattle.std.specs.declared.result.Result.the-variants.{Ok, Err}
 use Rattle.model.specs.declared.refusal.Refusal.{Refusal}
 use Rattle.model.specs.declared.refusal.Refusal.the-variants.{Truncated}
+use Rattle.text.specs.Lengths.{with-payload}
 use Rattle.text.specs.Tests.{when}
 use Rattle.text.specs.declared.fault.Fault.{Fault}
 use Rattle.text.specs.declared.field.Field.{Field}
@@ -38,23 +39,16 @@ pair-at bytes i = getD bytes i 0 * 256 + getD bytes (i + 1) 0
 abbrev pub prefix-at : List ℕ → ℕ → Option (ℕ × ℕ)
 prefix-at text at = when (leb (at + 3) (length text)) (getD text at 0, getD text (at + 1) 0 * 256 + getD text (at + 2) 0)
 
--- the part of the text behind those three bytes, if it is as long as the length says
-abbrev pub payload-at : List ℕ → ℕ → ℕ → Option (List ℕ)
-payload-at text at len = when (leb (at + 3 + len) (length text)) (take len (drop (at + 3) text))
-
 abbrev pub with-kind : {K : Type 0} → Result K Refusal → ℕ → List ℕ → Result (Part K) Fault
 with-kind (Ok k) at bytes = Ok (record { kind = k; place = at; bytes = bytes })
 with-kind (Err why) at bytes = refused why at
 
-abbrev pub with-payload : {K : Type 0} → Result K Refusal → ℕ → Option (List ℕ) → Result (Part K) Fault
-with-payload made at None = refused Truncated at
-with-payload made at (Some bytes) = with-kind made at bytes
-
+-- the payload is the part of the text behind those three bytes
 abbrev pub with-prefix : {K : Type 0} → (ℕ → ℕ → Result K Refusal) → List ℕ → ℕ → Option (ℕ × ℕ) → Result (Part K) Fault
 with-prefix made text at None = refused Truncated at
-with-prefix made text at (Some pre) = with-payload (made (pre .0) (pre .1)) at (payload-at text at (pre .1))
+with-prefix made text at (Some pre) = with-kind (with-payload made (pre .0) (pre .1) (length text - (at + 3))) at (take (pre .1) (drop (at + 3) text))
 
--- The field whose tag stands at a place, or why there is none. That bytes are missing is told before what tag and length make.
+-- the field whose tag stands at a place, or why there is none
 unfoldable pub field-at : {K : Type 0} → (ℕ → ℕ → Result K Refusal) → List ℕ → ℕ → Result (Part K) Fault
 field-at made text at = with-prefix made text at (prefix-at text at)
 

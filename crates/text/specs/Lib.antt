@@ -1,4 +1,5 @@
 pub mod Tests
+pub mod Lengths
 pub mod Fields
 pub mod Readers
 pub mod Kinds

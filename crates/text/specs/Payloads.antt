@@ -22,7 +22,7 @@ use Rattle.text.specs.declared.kind.RuleKind.the-variants.{Offset, Near, NotAb
 use Rattle.text.specs.Tests.{when, within}
 use Rattle.text.specs.Fields.{pair-at}
 
--- n in 1 to 32, and w in 1 to 256
+-- n gates and w positions: one of each at least, and no more than the bounds
 abbrev pub head-of : List ℕ → Option Head
 head-of bytes =
     when
@@ -43,7 +43,7 @@ pair-of n x y = when (two-gates n x y) (x, y)
 abbrev pub signed : ℕ → ℕ → ℤ
 signed high low = toZ w16 (high * 256 + low)
 
--- c from -255 to 255
+-- c is no further from 0 than the bound
 abbrev pub small : ℤ → Bool
 small c = leZ (negsuc (most-shift - 1)) c && leZ c (pos most-shift)
 

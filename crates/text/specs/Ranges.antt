@@ -23,7 +23,7 @@ sound [] w = true
 sound (a ∷ []) w = true
 sound (a ∷ (b ∷ rest)) w = (leb a b && ltb b w) && sound rest w
 
--- for each of 256 positions, whether the ranges cover it
+-- for each position that a gate can have, whether the ranges cover it
 unfoldable pub row-of : List ℕ → ℕ → Option (List Bool)
 row-of ranges w = when (sound ranges w) (map (covered ranges) (counting 0 most-width))
 

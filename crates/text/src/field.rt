@@ -2,6 +2,7 @@
 ghost use mathlib.Core.Path.{_≡_};
 ghost use Prim.Native.Nat.{ℕ};
 ghost use Rattle.std.specs.declared.result.Result.{Result as ResultOf};
+ghost use Rattle.text.specs.Lengths.{with-payload};
 ghost use Rattle.model.specs.declared.refusal.Refusal.{Refusal as RefusalOf};
 use crate::fault::Fault;
 use model::refusal::Refusal;
@@ -11,8 +12,9 @@ pub trait Kinds: Sized {
     // the kind that a tag and a length make, or why they make none
     ghost made: { ℕ → ℕ → ResultOf Self RefusalOf };
 
-    fn of(tag: u8, len: u16) -> Result<Self, Refusal>
-        ensures { λ r. ⌜ r ≡ made tag len ⌝ };
+    // What tag and length make, where so many bytes are left behind them: refusal 1, 2 or 3, in that order.
+    fn of(tag: u8, len: u16, left: usize) -> Result<Self, Refusal>
+        ensures { λ r. ⌜ r ≡ with-payload made tag len left ⌝ };
 }
 
 /// What a field is about, where its tag stands, and its payload.

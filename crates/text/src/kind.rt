@@ -31,8 +31,9 @@ const TOTAL_LEN: u16 = 8 + 2 * MEMBERS as u16;
 pub impl Kinds for PlanKind as PlanKinds {
     ghost made = { plan-kind };
 
-    fn of(tag: u8, len: u16) -> Result<PlanKind, Refusal> {
+    fn of(tag: u8, len: u16, left: usize) -> Result<PlanKind, Refusal> {
         match (tag, len) {
+            _ if left < usize::from(len) => Err(Refusal::Truncated),
             (0x01, 3) => Ok(PlanKind::Head),
             (0x02, 1..=POSITIONS_LEN) if len % 2 == 1 => Ok(PlanKind::Positions),
             (0x03, 4) => Ok(PlanKind::Rule(RuleKind::Offset)),

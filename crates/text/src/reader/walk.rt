@@ -1,11 +1,9 @@
 // One field after another.
 ghost use mathlib.Core.Path.{_≡_};
-ghost use Prim.Native.Nat.{_+_, _≤_};
+ghost use Prim.Native.Nat.{_≤_};
 ghost use lib.ListN.{length};
-ghost use Rattle.std.specs.Options.{mapped};
-ghost use Rattle.std.specs.Slices.{found};
 ghost use Rattle.text.specs.Readers.{text-of, place-of};
-ghost use Rattle.text.specs.Fields.{prefix-at, payload-at, field-at, next-at, seen};
+ghost use Rattle.text.specs.Fields.{prefix-at, field-at, next-at, seen};
 use super::Reader;
 use crate::fault::Fault;
 use crate::field::Field;
@@ -27,42 +25,24 @@ fn prefix(text: &[u8], at: usize) -> Option<(u8, u16)>
     Some((text[at], len))
 }
 
-/// The payload of the field at a place, the part of the text behind its prefix, or `None` where less is left than the length says.
-fn payload(text: &[u8], at: usize, len: u16) -> Option<&[u8]>
-    requires { ⌜ at ≤ length (now text) ⌝ }
-    ensures value { λ r. ⌜ mapped now r ≡ payload-at (now (text .entry)) at len ⌝ }
-    ensures inside { λ r. ⌜ found r (λ x. at + 3 + length (x .now) ≤ length (now (text .entry))) ⌝ }
-{
-    let left = text.len() - at;
-    let size = usize::from(len);
-    if left < PREFIX + size {
-        return None;
-    }
-    let start = at + PREFIX;
-    Some(&text[start..start + size])
-}
-
-/// The field at a place. That bytes are missing is told before what tag and length make.
+/// The field at a place; its payload is the part of the text behind its prefix.
 fn field_at<'a, K: Kinds>(text: &'a [u8], place: usize) -> Result<Field<'a, K>, Fault>
     requires { ⌜ place ≤ length (now text) ⌝ }
     ensures value { λ r. ⌜ seen r ≡ field-at (K·Kinds .made) (now (text .entry)) place ⌝ }
     ensures inside { λ r. ⌜ next-at (seen r) place ≤ length (now (text .entry)) ⌝ }
 {
-    let missing = Fault {
-        refusal: Refusal::Truncated,
-        place,
-    };
     let Some((tag, len)) = prefix(text, place) else {
-        return Err(missing);
+        return Err(Fault {
+            refusal: Refusal::Truncated,
+            place,
+        });
     };
-    let Some(payload) = payload(text, place, len) else {
-        return Err(missing);
-    };
-    match K::of(tag, len) {
+    let start = place + PREFIX;
+    match K::of(tag, len, text.len() - start) {
         Ok(kind) => Ok(Field {
             kind,
             place,
-            payload,
+            payload: &text[start..start + usize::from(len)],
         }),
         Err(refusal) => Err(Fault { refusal, place }),
     }
