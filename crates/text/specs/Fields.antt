@@ -31,13 +31,13 @@ seen (Err e) = Err e
 abbrev pub refused : {X : Type 0} → Refusal → ℕ → Result X Fault
 refused why place = Err (record { refusal = why; place = place })
 
--- a number of two bytes, the high one first
-abbrev pub pair-at : List ℕ → ℕ → ℕ
-pair-at bytes i = getD bytes i 0 * 256 + getD bytes (i + 1) 0
+-- a number of two bytes
+abbrev pub two-bytes : ℕ → ℕ → ℕ
+two-bytes high low = high * 256 + low
 
 -- the tag at a place and the length behind it, if three bytes are left
 abbrev pub prefix-at : List ℕ → ℕ → Option (ℕ × ℕ)
-prefix-at text at = when (leb (at + 3) (length text)) (getD text at 0, getD text (at + 1) 0 * 256 + getD text (at + 2) 0)
+prefix-at text at = when (leb (at + 3) (length text)) (getD text at 0, two-bytes (getD text (at + 1) 0) (getD text (at + 2) 0))
 
 abbrev pub with-kind : {K : Type 0} → Result K Refusal → ℕ → List ℕ → Result (Part K) Fault
 with-kind (Ok k) at bytes = Ok (record { kind = k; place = at; bytes = bytes })

@@ -20,14 +20,14 @@ use Rattle.text.specs.declared.numbers.Link.{Link}
 use Rattle.text.specs.declared.kind.RuleKind.{RuleKind}
 use Rattle.text.specs.declared.kind.RuleKind.the-variants.{Offset, Near, NotAbove, Total}
 use Rattle.text.specs.Tests.{when, within}
-use Rattle.text.specs.Fields.{pair-at}
+use Rattle.text.specs.Fields.{two-bytes}
 
 -- n gates and w positions: one of each at least, and no more than the bounds
 abbrev pub head-of : List ℕ → Option Head
 head-of bytes =
     when
-    (eqb (length bytes) 3 && (within 1 most-gates (getD bytes 0 0) && within 1 most-width (pair-at bytes 1)))
-    (record { gates = getD bytes 0 0; width = pair-at bytes 1 })
+    (eqb (length bytes) 3 && (within 1 most-gates (getD bytes 0 0) && within 1 most-width (two-bytes (getD bytes 1 0) (getD bytes 2 0))))
+    (record { gates = getD bytes 0 0; width = two-bytes (getD bytes 1 0) (getD bytes 2 0) })
 
 -- two different gates of a plan of n gates
 abbrev pub two-gates : ℕ → ℕ → ℕ → Bool
@@ -39,9 +39,9 @@ gates-of p = (p .x, p .y)
 abbrev pub pair-of : ℕ → ℕ → ℕ → Option (ℕ × ℕ)
 pair-of n x y = when (two-gates n x y) (x, y)
 
--- a number of two bytes, high byte first, in two's complement
+-- a number of two bytes in two's complement
 abbrev pub signed : ℕ → ℕ → ℤ
-signed high low = toZ w16 (high * 256 + low)
+signed high low = toZ w16 (two-bytes high low)
 
 -- c is no further from 0 than the bound
 abbrev pub small : ℤ → Bool
