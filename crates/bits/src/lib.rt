@@ -1,4 +1,6 @@
 // The bit store: a row of bits for each gate, and in the caller's memory a trail of the positions that have left.
+#![tactic(auto)]
+
 ghost use Rattle.stack.specs.Stacks.{items, room};
 ghost use Rattle.bits.specs.Representation.{Fit, Long, Listed, Apart, Tied, Counts, Marks};
 

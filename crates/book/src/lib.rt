@@ -1,4 +1,6 @@
 // The book of notes: what each reader noted, now and at each open save.
+#![tactic(auto)]
+
 ghost use Rattle.std.specs.Prelude.{◌≡◌, ◌≤◌, length};
 ghost use Rattle.model.specs.Bounds.{most_saves};
 

@@ -1,4 +1,6 @@
 // A layer over any store that remembers each gate's lowest and highest open position.
+#![tactic(auto)]
+
 use crate::ends::Memory;
 use store::Store;
 

@@ -1,4 +1,6 @@
 // What the program gateplan prints on its input: the lines, as one text.
+#![tactic(auto)]
+
 ghost use Rattle.std.specs.Prelude.{◌≡◌, ◌≤◌, ◌++◌, length, IfOk, string_bytes, OnOk};
 ghost use Rattle.plan.specs.Views.{load_of};
 ghost use Rattle.console.specs.Lines.{plan_line, refused_line, stop_line, behind_plan, printed};

@@ -1,4 +1,6 @@
 // What the program gateplan prints on its input: the lines, as one text.
+#![tactic(auto)]
+
 ghost use Rattle.std.specs.Prelude.{IfOk, string_bytes};
 ghost use Rattle.console_calls.specs.Sessions.{Prints};
 

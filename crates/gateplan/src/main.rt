@@ -1,4 +1,6 @@
 // Reads a plan and calls from standard input, and prints what console says.
+#![tactic(auto)]
+
 use console::{INPUT, output};
 use std::io;
 use std::io::Read;

@@ -1,5 +1,7 @@
 // The subject in definitions, the types and bounds that every crate shares, and the theorems of the planner.
 // A theorem is named by the contract of a function without code: that contract is what has it proved.
+#![tactic(auto)]
+
 ghost use Rattle.model.specs.Statements.{OneLargest, SomeLargest, SettlingGrows, SettlingRests, SettlingKeepsSettings, OneAnswer, StringsStand, OneStanding, OneLedger, StringsEndAsTheLedger, StringsPermit, StringsMeet, StringsEnd};
 ghost use Rattle.model.specs.Trials.{Trials};
 

@@ -1,4 +1,6 @@
 // A plan as read from its text.
+#![tactic(auto)]
+
 ghost use Rattle.std.specs.Prelude.{◌≤◌};
 ghost use Rattle.model.specs.Bounds.{most_gates, most_width, most_rules};
 

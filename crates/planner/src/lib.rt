@@ -1,4 +1,6 @@
 // The planner: a plan, a store that holds the domains, and the notes of the readers.
+#![tactic(auto)]
+
 use book::Book;
 use plan::Plan;
 use store::Store;

@@ -1,4 +1,6 @@
 // Rows of bits: sets of positions.
+#![tactic(auto)]
+
 use model::bounds::WIDTH;
 
 mod calls;

@@ -1,4 +1,6 @@
 // The sparse store: each gate's positions stand in the caller's memory as a permutation, its domain first.
+#![tactic(auto)]
+
 ghost use Rattle.sparse.specs.Arrays.{Room, Perms, Sizes, Table, Fall, Since, Within};
 
 use cells::Cells;

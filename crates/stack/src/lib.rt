@@ -1,4 +1,6 @@
 // A stack of entries over a lent slice.
+#![tactic(auto)]
+
 mod calls;
 
 // No ghost field: other structs hold a stack by value, and every call is right for every value of the type.

@@ -1,6 +1,8 @@
 // Runs cases: a line of standard input has a name and an input in hexadecimal, and what the program prints on it is printed behind the name.
 // The input is given in parts, each of which may be repeated, as in `cafe ab*3`.
 // Of a case whose name begins with `+` the plan is told too: what each gate starts with, and the rules.
+#![tactic(auto)]
+
 use anyhow::anyhow;
 use console::output;
 use model::rule::pair::Pair;

@@ -3,6 +3,8 @@
 // The input is given in parts, each of which may be repeated, as in `cafe ab*3`.
 // Each is run over every kind of store, and it is told where one prints something else than the first.
 // Of a case whose name begins with `+` the plan is told too: what each gate starts with, and the rules.
+#![tactic(auto)]
+
 use anyhow::anyhow;
 use model::rule::pair::Pair;
 use model::rule::{Rule, Total};
