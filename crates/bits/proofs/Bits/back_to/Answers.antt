@@ -31,14 +31,14 @@ bounds-self-g-in-Some-2 c = back_gate c.loop-self.self (items c.pop.new.self) c.
 pub bounds-self-g-in-Some-3 : goal.bounds-self-g-in-Some-3
 bounds-self-g-in-Some-3 c = back_gate c.loop-self.self (items c.pop.new.self) c.in-Some.r c.in-Some.ensures.0
 
-pub overflow-add-self : goal.overflow-add-self
-overflow-add-self c =
+pub overflow_add-self : goal.overflow_add-self
+overflow_add-self c =
     let s = c.loop-self.self in
     let b : get_or s.count c.in-Some.r.gate 0 ≤ most_width = back_count s (items c.pop.new.self) c.in-Some.r c.in-Some.ensures.0 in
     search rules
 
-pub invariant-of-self : goal.invariant-of-self
-invariant-of-self c =
+pub invariant_of-self : goal.invariant_of-self
+invariant_of-self c =
     let s = c.loop-self.self in
     let i = c.loop-self.invariant in
     let ys = items c.pop.new.self in
@@ -62,17 +62,17 @@ loop-self-preserved-in-Some c =
     (i.0, i.1, i.2, i.3, p.1 ∙ i.4, omega (arith, c.len.ensures), undo_front xs ys (items c.args.self.now.trail) r p.0 i.6)
 
 -- the trail is longer than the mark, so it is not empty
-pub invariant-of-self-in-default : goal.invariant-of-self-in-default
-invariant-of-self-in-default c = absurd (omega (arith, c.len.ensures, c.in-default.ensures.0))
+pub invariant_of-self-in_default : goal.invariant_of-self-in_default
+invariant_of-self-in_default c = absurd (omega (arith, c.len.ensures, c.in_default.ensures.0))
 
 pub loop-self-smaller : goal.loop-self-smaller
-loop-self-smaller c = absurd (omega (arith, c.len.ensures, c.in-default.ensures.0))
+loop-self-smaller c = absurd (omega (arith, c.len.ensures, c.in_default.ensures.0))
 
 pub loop-self-preserved : goal.loop-self-preserved
-loop-self-preserved c = absurd (omega (arith, c.len.ensures, c.in-default.ensures.0))
+loop-self-preserved c = absurd (omega (arith, c.len.ensures, c.in_default.ensures.0))
 
-pub invariant-of-self-2 : goal.invariant-of-self-2
-invariant-of-self-2 c = restore_kept c.loop-self.self (c.loop-self.self.depth - 1) (omega arith)
+pub invariant_of-self-2 : goal.invariant_of-self-2
+invariant_of-self-2 c = restore_kept c.loop-self.self (c.loop-self.self.depth - 1) (omega arith)
 
 pub returns : goal.returns
 returns c =

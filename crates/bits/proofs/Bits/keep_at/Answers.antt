@@ -13,8 +13,8 @@ use Rattle.bits.proofs.Bits.keep_at.Goals as goal
 pub loop-p-init : goal.loop-p-init
 loop-p-init c = λ q _. sym (and-true (lit (row_at c.args.self.now.rows c.args.g) q))
 
-pub overflow-cast-p : goal.overflow-cast-p
-overflow-cast-p c =
+pub overflow_cast-p : goal.overflow_cast-p
+overflow_cast-p c =
     let s = c.args.self.now in
     let xs = c.args.list.now in
     let i = c.loop-p.p-index in

@@ -4,8 +4,8 @@ use Rattle.bits.proofs.Marking.{save_kept, save_means}
 use Rattle.bits.specs.Soundness.{length_marks}
 use Rattle.bits.proofs.Bits.mark.Goals as goal
 
-pub invariant-of-self : goal.invariant-of-self
-invariant-of-self c = save_kept c.args.self.now c.requires.room c.args.len c.requires.len
+pub invariant_of-self : goal.invariant_of-self
+invariant_of-self c = save_kept c.args.self.now c.requires.room c.args.len c.requires.len
 
 pub returns : goal.returns
 returns c =

@@ -19,15 +19,15 @@ returns-then-not-contains c =
       miss = λ _ _ _. (refl, refl);
     }
 
-pub overflow-sub-self : goal.overflow-sub-self
-overflow-sub-self c =
+pub overflow_sub-self : goal.overflow_sub-self
+overflow_sub-self c =
     let s = c.args.self.now in
     let hg = c.requires.gate in
     let hp = c.requires.position in
     some_left s c.args.g c.args.p hg hp (bit_open s c.args.g c.args.p hg hp (sym c.if-not-contains.ensures))
 
-pub invariant-of-self : goal.invariant-of-self
-invariant-of-self c =
+pub invariant_of-self : goal.invariant_of-self
+invariant_of-self c =
     let s = c.args.self.now in
     let g = c.args.g in
     let p = c.args.p in

@@ -9,11 +9,11 @@ use Rattle.bits.proofs.Bits.sweep.Goals as goal
 pub loop-from-init : goal.loop-from-init
 loop-from-init c = (omega arith, λ _. sym (sweep_none (meaning c.args.self.now) c.args.g (lit c.args.out.now)))
 
-pub returns-in-default : goal.returns-in-default
-returns-in-default c = λ hg.
+pub returns-in_default : goal.returns-in_default
+returns-in_default c = λ hg.
     let s = c.args.self.now in
     sweep_jump (meaning s) c.args.g (lit c.args.out.now) c.loop-from.from s.width (omega arith)
-    (λ q l u. c.in-default.ensures q l (omega (arith, s.fit.1))) (meaning c.loop-from.self) (c.loop-from.invariant.1 hg)
+    (λ q l u. c.in_default.ensures q l (omega (arith, s.fit.1))) (meaning c.loop-from.self) (c.loop-from.invariant.1 hg)
 
 pub returns-then-q-w : goal.returns-then-q-w
 returns-then-q-w c = λ hg.

@@ -9,16 +9,16 @@ loop-i-preserved c =
     let i = c.loop-i.i in (
       length-set list i c.from.result ∙ c.loop-i.invariant.0,
       subst (λ (v : ℕ). take (i + 1) (set list i v) ≡ take (i + 1) (drop 1 bytes)) (sym c.from.ensures)
-          (copy_more list bytes i (omega (arith, c.loop-i.invariant.0)) (omega (arith, c.saturating-sub-many.ensures)) c.loop-i.invariant.1),
+          (copy_more list bytes i (omega (arith, c.loop-i.invariant.0)) (omega (arith, c.saturating_sub-many.ensures)) c.loop-i.invariant.1),
     )
 
 pub returns : goal.returns
 returns c =
     let bytes = c.args.payload.now in
-    let many = c.saturating-sub-many.result in
+    let many = c.saturating_sub-many.result in
     let done : c.loop-i.i ≡ many = omega arith in
     record {
-      few = omega (arith, c.saturating-sub-many.ensures);
+      few = omega (arith, c.saturating_sub-many.ensures);
       those = subst (λ (k : ℕ). take k c.loop-i.list ≡ take k (drop 1 bytes)) done c.loop-i.invariant.1
-          ∙ take_all many (drop 1 bytes) (omega (arith, length-drop 1 bytes, c.saturating-sub-many.ensures));
+          ∙ take_all many (drop 1 bytes) (omega (arith, length-drop 1 bytes, c.saturating_sub-many.ensures));
     }

@@ -26,8 +26,8 @@ loop-reader-init g c =
       ),
     )
 
-pub add-call-requires : goal.add-call-requires
-add-call-requires g c =
+pub add_call-requires : goal.add_call-requires
+add_call-requires g c =
     allowed c.args.input.now (place_of c.loop-reader.reader) (part c.in-Ok.field)
     (ap (λ (t : List ℕ). field_at call_kind t (place_of c.loop-reader.reader)) (sym c.loop-reader.invariant.0) ∙ sym c.in-Ok.ensures.value)
 
@@ -43,16 +43,16 @@ loop-reader-preserved g c =
       subst (λ (t : List ℕ). place_of c.next.new.self ≤ length t) text c.next.new.self.inside,
       λ load h.
           let so = inv.2 load h in
-          let one = c.in-ok-add-call.ensures load so.0 in
+          let one = c.in_ok-add_call.ensures load so.0 in
           let line = one.1 in
           let out = so.1 in (
             one.0,
             (
               out.0 ++ line.0,
-              adds_both (string_bytes c.args.out.now) (string_bytes c.loop-reader.out) (string_bytes c.add-call.new.out) out.0 line.0 out.1 line.1,
-              subst (λ (k : ℕ). Goes load.plan input (state g.S.Store.mean c.args.planner.now) c.args.read (state g.S.Store.mean c.add-call.new.planner) k (out.0 ++ line.0))
+              adds_both (string_bytes c.args.out.now) (string_bytes c.loop-reader.out) (string_bytes c.add_call.new.out) out.0 line.0 out.1 line.1,
+              subst (λ (k : ℕ). Goes load.plan input (state g.S.Store.mean c.args.planner.now) c.args.read (state g.S.Store.mean c.add_call.new.planner) k (out.0 ++ line.0))
                   (sym at)
-                  (goes_on load.plan input (state g.S.Store.mean c.args.planner.now) (state g.S.Store.mean c.loop-reader.planner) (state g.S.Store.mean c.add-call.new.planner)
+                  (goes_on load.plan input (state g.S.Store.mean c.args.planner.now) (state g.S.Store.mean c.loop-reader.planner) (state g.S.Store.mean c.add_call.new.planner)
                   c.args.read from out.0 line.0 (part c.in-Ok.field) out.2 is line.2),
             ),
           ),
@@ -66,6 +66,6 @@ returns-in-Err g c = λ load h.
     let out = so.1 in
     let e = c.in-Err.fault in (
       out.0 ++ stop_line e,
-      adds_both (string_bytes c.args.out.now) (string_bytes c.loop-reader.out) (string_bytes c.add-stop.new.out) out.0 (stop_line e) out.1 c.in-ok-add-stop.ensures,
+      adds_both (string_bytes c.args.out.now) (string_bytes c.loop-reader.out) (string_bytes c.add_stop.new.out) out.0 (stop_line e) out.1 c.in_ok-add_stop.ensures,
       record { last = _; at = from; lines = out.0; goes = out.2; ends = inr (omega (arith, c.place.ensures), (e, ap (λ (t : List ℕ). field_at call_kind t from) (sym inv.0) ∙ sym c.in-Err.ensures.value, refl)) },
     )

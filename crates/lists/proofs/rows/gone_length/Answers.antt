@@ -15,8 +15,8 @@ few m g a k =
     (λ (h : m.gates ≤ g). absurd (not_both a _ (k.gate h)))
     (cases_lt g m.gates)
 
-pub overflow-sub-result : goal.overflow-sub-result
-overflow-sub-result g c =
+pub overflow_sub-result : goal.overflow_sub-result
+overflow_sub-result g c =
     let w = c.width.ensures in
     let h = few (g.S.Store.mean c.args.store.now) c.args.g c.in-Ok.left c.in-Ok.ensures in
     omega arith

@@ -14,20 +14,20 @@ room row list p w k n hit l a b c =
 
 here : (c : goal.Then-row-p) → c.loop-p.k < length c.args.list.now
 here c =
-    room c.args.row.now c.args.list.now c.loop-p.p c.args.w c.loop-p.k c.count-marked-n.result c.if-row-p.true c.loop-p-test.true c.loop-p.invariant.0
-    c.count-marked-n.ensures (omega (arith, c.if-list-n.false))
+    room c.args.row.now c.args.list.now c.loop-p.p c.args.w c.loop-p.k c.count_marked-n.result c.if-row-p.true c.loop-p-test.true c.loop-p.invariant.0
+    c.count_marked-n.ensures (omega (arith, c.if-list-n.false))
 
 pub bounds-list-k : goal.bounds-list-k
 bounds-list-k c = omega (arith, here c, c.loop-p.auto.list)
 
-pub offset-bounds-list-k : goal.offset-bounds-list-k
-offset-bounds-list-k c =
+pub offset_bounds-list-k : goal.offset_bounds-list-k
+offset_bounds-list-k c =
     let a = ascending_short c.loop-p.p (λ q. get_or c.args.row.now q false) in
     let small : c.loop-p.k < 256 = omega arith in
     search rules
 
-pub overflow-add-k : goal.overflow-add-k
-overflow-add-k c =
+pub overflow_add-k : goal.overflow_add-k
+overflow_add-k c =
     let a = ascending_short c.loop-p.p (λ q. get_or c.args.row.now q false) in
     let small : c.loop-p.k < 256 = omega arith in
     search rules
@@ -43,8 +43,8 @@ loop-p-preserved c =
           let hit = ascending_hit p (λ q. get_or row q false) w.if-row-p.true in
           let a = ap length hit in
           let b = length_push (marked row p) p in
-          let l = room row list p c.args.w k c.count-marked-n.result w.if-row-p.true c.loop-p-test.true c.loop-p.invariant.0
-          c.count-marked-n.ensures (omega (arith, c.if-list-n.false)) in (
+          let l = room row list p c.args.w k c.count_marked-n.result w.if-row-p.true c.loop-p-test.true c.loop-p.invariant.0
+          c.count_marked-n.ensures (omega (arith, c.if-list-n.false)) in (
             omega (arith, w.k-is),
             w.list-is ∙ ap (λ (ys : List ℕ). set ys k p) c.loop-p.invariant.1 ∙ set_front (marked row p) list k p c.loop-p.invariant.0 l
                 ∙ ap₂ {C = List ℕ} (λ (xs : List ℕ) (n : ℕ). xs ++ drop n list) (sym hit) (sym w.k-is),

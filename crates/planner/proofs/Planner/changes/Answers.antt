@@ -36,18 +36,18 @@ returns-in-Some g c =
     let p = c.args.self.now in
     let mean = g.S.Store.mean in
     record {
-      unloaded = λ e. absurd (no_plan p.plan c.if-is-none.ensures e);
+      unloaded = λ e. absurd (no_plan p.plan c.if-is_none.ensures e);
       refused = λ e. absurd (both_ways true e refl);
       fits =
-          let w = written_some (marked c.gone-since-row.result c.width.result) c.args.list.now c.in-Some.n c.write-marked.new.list c.in-Some.ensures in
+          let w = written_some (marked c.gone_since-row.result c.width.result) c.args.list.now c.in-Some.n c.write_marked.new.list c.in-Some.ensures in
           omega (arith, w.0, w.1);
       asked = λ load h.
           let plan = load.plan in
           let s = state mean p in
           let few : c.args.g < plan.gates = omega (arith, h.gates) in
-          asked_some plan s (changes c.args.r c.args.g (length c.args.list.now)) (model.changed plan s c.args.r c.args.g) c.args.list.now c.write-marked.new.list c.in-Some.n
-          (gone mean g.S.Store.good p load h c.args.r c.args.g c.noted-from.result c.noted-from.ensures c.gone-since-row.result c.width.result c.width.ensures c.gone-since-row.ensures c.args.list.now
-          (Some c.in-Some.n) c.write-marked.new.list c.in-Some.ensures)
+          asked_some plan s (changes c.args.r c.args.g (length c.args.list.now)) (model.changed plan s c.args.r c.args.g) c.args.list.now c.write_marked.new.list c.in-Some.n
+          (gone mean g.S.Store.good p load h c.args.r c.args.g c.noted-from.result c.noted-from.ensures c.gone_since-row.result c.width.result c.width.ensures c.gone_since-row.ensures c.args.list.now
+          (Some c.in-Some.n) c.write_marked.new.list c.in-Some.ensures)
           (changes_passed plan s c.args.r c.args.g (length c.args.list.now) (omega arith) few) (λ a e. e);
     }
 
@@ -56,15 +56,15 @@ returns-in-None g c =
     let p = c.args.self.now in
     let mean = g.S.Store.mean in
     record {
-      unloaded = λ e. absurd (no_plan p.plan c.if-is-none.ensures e);
-      refused = λ e. (written_none (marked c.gone-since-row.result c.width.result) c.args.list.now c.write-marked.new.list c.in-None.ensures).1;
+      unloaded = λ e. absurd (no_plan p.plan c.if-is_none.ensures e);
+      refused = λ e. (written_none (marked c.gone_since-row.result c.width.result) c.args.list.now c.write_marked.new.list c.in-None.ensures).1;
       fits = tt;
       asked = λ load h.
           let plan = load.plan in
           let s = state mean p in
           let few : c.args.g < plan.gates = omega (arith, h.gates) in
-          asked_none plan s (changes c.args.r c.args.g (length c.args.list.now)) (model.changed plan s c.args.r c.args.g) c.args.list.now c.write-marked.new.list
-          (gone mean g.S.Store.good p load h c.args.r c.args.g c.noted-from.result c.noted-from.ensures c.gone-since-row.result c.width.result c.width.ensures c.gone-since-row.ensures c.args.list.now
-          None c.write-marked.new.list c.in-None.ensures)
+          asked_none plan s (changes c.args.r c.args.g (length c.args.list.now)) (model.changed plan s c.args.r c.args.g) c.args.list.now c.write_marked.new.list
+          (gone mean g.S.Store.good p load h c.args.r c.args.g c.noted-from.result c.noted-from.ensures c.gone_since-row.result c.width.result c.width.ensures c.gone_since-row.ensures c.args.list.now
+          None c.write_marked.new.list c.in-None.ensures)
           (changes_short plan s c.args.r c.args.g (length c.args.list.now) (omega arith) few);
     }

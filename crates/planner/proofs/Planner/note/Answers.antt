@@ -10,8 +10,8 @@ returns g c =
     let noted = c.note.ensures in
     let long : c.args.r < length p.book.notes.rows = omega (arith, noted.long) in
     record {
-      unloaded = λ e. absurd (no_plan p.plan c.if-is-none.ensures e);
+      unloaded = λ e. absurd (no_plan p.plan c.if-is_none.ensures e);
       whole = λ e. absurd (both_ways true e refl);
-      made = note_makes g.S.Store.mean g.S.Store.good p c.note.new.self c.args.r c.gone-lengths-lengths.result noted.notes noted.saved noted.depth (omega arith) long
-          c.gone-lengths-lengths.ensures;
+      made = note_makes g.S.Store.mean g.S.Store.good p c.note.new.self c.args.r c.gone_lengths-lengths.result noted.notes noted.saved noted.depth (omega arith) long
+          c.gone_lengths-lengths.ensures;
     }

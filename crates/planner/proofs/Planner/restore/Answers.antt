@@ -9,8 +9,8 @@ returns g c =
     let p = c.args.self.now in
     let back = c.restore-2.ensures in
     record {
-      unloaded = λ e. absurd (no_plan p.plan c.if-is-none.ensures e);
+      unloaded = λ e. absurd (no_plan p.plan c.if-is_none.ensures e);
       whole = λ e. absurd (both_ways true e refl);
-      made = restore_makes g.S.Store.mean g.S.Store.good p c.restore.new.self c.restore.ensures.good c.restore-2.new.self c.in-ok-many.many
-          c.in-ok-many.ensures.meant (ltb-true 0 p.book.depth (sym c.if-not-has-save.ensures)) back.notes back.saved back.closed;
+      made = restore_makes g.S.Store.mean g.S.Store.good p c.restore.new.self c.restore.ensures.good c.restore-2.new.self c.in_ok-many.many
+          c.in_ok-many.ensures.meant (ltb-true 0 p.book.depth (sym c.if-not-has_save.ensures)) back.notes back.saved back.closed;
     }

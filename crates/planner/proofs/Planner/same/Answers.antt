@@ -11,8 +11,8 @@ returns g c =
     let gates : m.gates ≡ n.gates = sym c.gates.ensures ∙ c.if-gates.false ∙ c.gates-2.ensures in
     let width : m.width ≡ n.width = sym c.width.ensures ∙ c.if-width.false ∙ c.width-2.ensures in
     record {
-      unloaded = λ e. absurd (no_plan c.args.self.now.plan c.if-is-none.ensures e);
-      other = λ e. absurd (no_plan c.args.other.now.plan c.if-is-none-2.ensures e);
+      unloaded = λ e. absurd (no_plan c.args.self.now.plan c.if-is_none.ensures e);
+      other = λ e. absurd (no_plan c.args.other.now.plan c.if-is_none-2.ensures e);
       agree = λ a b. (
         c.alike.result,
         refl,

@@ -5,13 +5,13 @@ use Rattle.planner.proofs.Holding.{no_plan}
 use Rattle.planner.proofs.Saving.{save_makes, save_refused}
 use Rattle.planner.proofs.Planner.save.Goals as goal
 
-pub returns-then-not-has-room : goal.returns-then-not-has-room
-returns-then-not-has-room g c =
+pub returns-then-not-has_room : goal.returns-then-not-has_room
+returns-then-not-has_room g c =
     let p = c.args.self.now in
     record {
-      unloaded = λ e. absurd (no_plan p.plan c.if-is-none.ensures e);
+      unloaded = λ e. absurd (no_plan p.plan c.if-is_none.ensures e);
       whole = λ e. refl;
-      made = save_refused g.S.Store.mean g.S.Store.good p (ltb-false p.book.depth most_saves (sym c.if-not-has-room.ensures));
+      made = save_refused g.S.Store.mean g.S.Store.good p (ltb-false p.book.depth most_saves (sym c.if-not-has_room.ensures));
     }
 
 pub returns : goal.returns
@@ -19,8 +19,8 @@ returns g c =
     let p = c.args.self.now in
     let saved = c.save-2.ensures in
     record {
-      unloaded = λ e. absurd (no_plan p.plan c.if-is-none.ensures e);
+      unloaded = λ e. absurd (no_plan p.plan c.if-is_none.ensures e);
       whole = λ e. absurd (both_ways true e refl);
-      made = save_makes g.S.Store.mean g.S.Store.good p c.save.new.self c.save.ensures.good c.save-2.new.self c.in-ok-many.many
-          c.in-ok-many.ensures.meant (ltb-true p.book.depth most_saves (sym c.if-not-has-room.ensures)) saved.notes saved.saved saved.opened;
+      made = save_makes g.S.Store.mean g.S.Store.good p c.save.new.self c.save.ensures.good c.save-2.new.self c.in_ok-many.many
+          c.in_ok-many.ensures.meant (ltb-true p.book.depth most_saves (sym c.if-not-has_room.ensures)) saved.notes saved.saved saved.opened;
     }

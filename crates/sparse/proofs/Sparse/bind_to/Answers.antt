@@ -12,17 +12,17 @@ returns-then-at-self c = record {
   done = λ hg _. clear_kept c.args.self.now c.args.g c.args.p hg c.if-at-self.true;
 }
 
-pub to-front-requires : goal.to-front-requires
-to-front-requires c = swap_needs c.args.self.now c.args.g c.args.p 0 c.requires.gate c.requires.position c.if-at-self.false (omega arith)
+pub to_front-requires : goal.to_front-requires
+to_front-requires c = swap_needs c.args.self.now c.args.g c.args.p 0 c.requires.gate c.requires.position c.if-at-self.false (omega arith)
 
-pub invariant-of-self-2 : goal.invariant-of-self-2
-invariant-of-self-2 c =
+pub invariant_of-self-2 : goal.invariant_of-self-2
+invariant_of-self-2 c =
     let s = c.args.self.now in
     let g = c.args.g in
     let hg = c.requires.gate in
-    let dom' = c.to-front.new.self.dom.now in
-    let map' = c.to-front.new.self.map.now in
-    let x = swapped s g c.args.p 0 hg c.requires.position c.if-at-self.false (omega arith) dom' map' c.to-front.ensures.dom c.to-front.ensures.map in
+    let dom' = c.to_front.new.self.dom.now in
+    let map' = c.to_front.new.self.map.now in
+    let x = swapped s g c.args.p 0 hg c.requires.position c.if-at-self.false (omega arith) dom' map' c.to_front.ensures.dom c.to_front.ensures.map in
     moved_fields s g hg dom' map' x 1 (omega arith)
 
 pub returns : goal.returns
@@ -30,5 +30,5 @@ returns c = record {
   gate = λ h. absurd (omega arith);
   position = λ _ h. absurd (omega arith);
   done = λ hg hp. bind_kept c.args.self.now c.args.g c.args.p 0 hg hp c.if-at-self.false (omega arith)
-      c.to-front.new.self.dom.now c.to-front.new.self.map.now c.to-front.ensures.dom c.to-front.ensures.map refl;
+      c.to_front.new.self.dom.now c.to_front.new.self.map.now c.to_front.ensures.dom c.to_front.ensures.map refl;
 }

@@ -18,8 +18,8 @@ gather-front-requires c =
       within = c.requires.within;
     }
 
-pub invariant-of-self : goal.invariant-of-self
-invariant-of-self c =
+pub invariant_of-self : goal.invariant_of-self
+invariant_of-self c =
     let e = c.gather-front.ensures in
     moved_fields c.args.self.now c.args.g c.requires.gate c.gather-front.new.self.dom.now c.gather-front.new.self.map.now e.moved
     c.gather-front.result e.few

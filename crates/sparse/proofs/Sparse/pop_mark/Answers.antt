@@ -3,8 +3,8 @@ use Rattle.sparse.proofs.Marks.{restore_fields, restore_means}
 use Rattle.sparse.specs.Soundness.{length_marks}
 use Rattle.sparse.proofs.Sparse.pop_mark.Goals as goal
 
-pub invariant-of-self : goal.invariant-of-self
-invariant-of-self c = restore_fields c.args.self.now c.requires c.newest-row.result c.newest-row.ensures
+pub invariant_of-self : goal.invariant_of-self
+invariant_of-self c = restore_fields c.args.self.now c.requires c.newest-row.result c.newest-row.ensures
 
 pub returns : goal.returns
 returns c =

@@ -3,8 +3,8 @@ use Rattle.sparse.proofs.Marks.{save_fields, save_means}
 use Rattle.sparse.specs.Soundness.{length_marks}
 use Rattle.sparse.proofs.Sparse.push_mark.Goals as goal
 
-pub invariant-of-self : goal.invariant-of-self
-invariant-of-self c = save_fields c.args.self.now c.requires c.mark-row.result c.mark-row.ensures
+pub invariant_of-self : goal.invariant_of-self
+invariant_of-self c = save_fields c.args.self.now c.requires c.mark-row.result c.mark-row.ensures
 
 pub returns : goal.returns
 returns c =

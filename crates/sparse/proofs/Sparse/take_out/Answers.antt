@@ -27,8 +27,8 @@ swap-requires c =
     let s = c.args.self.now in
     swap_needs s c.args.g c.args.p (get_or s.size c.args.g 0 - 1) c.requires.gate c.requires.position c.if-at-count.false (omega arith)
 
-pub invariant-of-self : goal.invariant-of-self
-invariant-of-self c =
+pub invariant_of-self : goal.invariant_of-self
+invariant_of-self c =
     let s = c.args.self.now in
     let g = c.args.g in
     let hg = c.requires.gate in

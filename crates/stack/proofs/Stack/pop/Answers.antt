@@ -3,8 +3,8 @@ use Rattle.std.proofs.lemmas.List.{take_more}
 use Rattle.stack.proofs.Fronts.{front_again, front_fits}
 use Rattle.stack.proofs.Stack.pop.Goals as goal
 
-pub offset-bounds-self-n : goal.offset-bounds-self-n
-offset-bounds-self-n g c =
+pub offset_bounds-self-n : goal.offset_bounds-self-n
+offset_bounds-self-n g c =
     let s = c.args.self.now in
     let b : c.len-n.result - 1 < length s.slots.now = omega (arith, c.len-n.ensures, front_fits s.slots.now s.len) in
     search rules

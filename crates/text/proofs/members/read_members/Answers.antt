@@ -6,7 +6,7 @@ use Rattle.model.specs.declared.rule.member.Member.{Member}
 use Rattle.text.specs.Payloads.{gates_below}
 use Rattle.text.proofs.Memberships.{members_peel, differ_push, differ_twice, below_push, below_high, too_many, too_few, too_high, twice, are_all, all_held, held_push, one_more}
 use Rattle.text.proofs.members.read_members.Goals as goal
-use Rattle.text.proofs.members.read_members.Goals.{then-count-ge-MEMBERS-via-then-count-ge-MEMBERS, then-count-ge-MEMBERS-via-else-count-ge-MEMBERS+then-from-gates, then-count-ge-MEMBERS-via-else-count-ge-MEMBERS+else-from-gates+then-is-member}
+use Rattle.text.proofs.members.read_members.Goals.{then-count-ge-MEMBERS-via-then-count-ge-MEMBERS, then-count-ge-MEMBERS-via-else-count-ge-MEMBERS+then-from-gates, then-count-ge-MEMBERS-via-else-count-ge-MEMBERS+else-from-gates+then-is_member}
 
 held_length : (list : List Member) (count : ℕ) → count ≤ length list → length (map member_of (take count list)) ≡ count
 held_length list count h = length-map (take count list) member_of ∙ length-take-le count list h
@@ -25,11 +25,11 @@ returns-then-count-ge-MEMBERS c =
       | then-count-ge-MEMBERS-via-else-count-ge-MEMBERS+then-from-gates w ↦
           too_high c.args.pairs.now c.args.gates
           (ap (gates_below c.args.gates) e ∙ below_high c.args.gates held _ _ (omega (arith, w.from.ensures, w.if-from-gates.true)))
-      | then-count-ge-MEMBERS-via-else-count-ge-MEMBERS+else-from-gates+then-is-member w ↦
+      | then-count-ge-MEMBERS-via-else-count-ge-MEMBERS+else-from-gates+then-is_member w ↦
           twice c.args.pairs.now c.args.gates
           (ap gates_differ e
           ∙ differ_twice held _ _
-          (ap (λ k. has_gate (map member_of (take k c.loop-rest.list)) (get_or c.loop-rest.rest.now 0 0)) (sym (sub-zero c.loop-rest.count)) ∙ sym w.if-is-member.ensures))
+          (ap (λ k. has_gate (map member_of (take k c.loop-rest.list)) (get_or c.loop-rest.rest.now 0 0)) (sym (sub-zero c.loop-rest.count)) ∙ sym w.if-is_member.ensures))
     ]
 
 pub loop-rest-preserved : goal.loop-rest-preserved
@@ -39,7 +39,7 @@ loop-rest-preserved c =
     let held = map member_of (take c.loop-rest.count c.loop-rest.list) in
     let e = ap (λ t. map member_of (take c.loop-rest.count c.loop-rest.list) ++ t) (sym (members_peel c.loop-rest.rest.now two)) ∙ c.loop-rest.invariant.0 in
     let new : has_gate held (get_or c.loop-rest.rest.now 0 0) ≡ false =
-    ap (λ k. has_gate (map member_of (take k c.loop-rest.list)) (get_or c.loop-rest.rest.now 0 0)) (sym (sub-zero c.loop-rest.count)) ∙ sym c.if-is-member.ensures in (
+    ap (λ k. has_gate (map member_of (take k c.loop-rest.list)) (get_or c.loop-rest.rest.now 0 0)) (sym (sub-zero c.loop-rest.count)) ∙ sym c.if-is_member.ensures in (
       one_more c.loop-rest.list c.loop-rest.count _ _ _ room e,
       ap (gates_below c.args.gates) (held_push c.loop-rest.list c.loop-rest.count _ room) ∙ below_push c.args.gates held _ c.loop-rest.invariant.1 (omega arith),
       ap gates_differ (held_push c.loop-rest.list c.loop-rest.count _ room) ∙ differ_push held _ c.loop-rest.invariant.2 new,

@@ -4,14 +4,14 @@ use Rattle.model.specs.Rules.{rule_of, listed}
 use Rattle.text.proofs.Memberships.{total_by}
 use Rattle.text.proofs.rules.read_total.Goals as goal
 
-pub returns-in-err-members : goal.returns-in-err-members
-returns-in-err-members c =
+pub returns-in_err-members : goal.returns-in_err-members
+returns-in_err-members c =
     let long : 8 ≤ length c.args.payload.now = search rules in
-    ap (option_map rule_of) c.from-residual.ensures
-    ∙ total_by c.args.payload.now c.args.gates c.from-be-bytes-low.result c.from-be-bytes-high.result long c.from-be-bytes-low.ensures c.from-be-bytes-high.ensures c.if-low-high.false None c.in-err-members.ensures
+    ap (option_map rule_of) c.from_residual.ensures
+    ∙ total_by c.args.payload.now c.args.gates c.from_be_bytes-low.result c.from_be_bytes-high.result long c.from_be_bytes-low.ensures c.from_be_bytes-high.ensures c.if-low-high.false None c.in_err-members.ensures
 
 pub returns : goal.returns
 returns c =
     let long : 8 ≤ length c.args.payload.now = search rules in
-    total_by c.args.payload.now c.args.gates c.from-be-bytes-low.result c.from-be-bytes-high.result long c.from-be-bytes-low.ensures c.from-be-bytes-high.ensures c.if-low-high.false
-    (Some (listed c.in-ok-members.members)) c.in-ok-members.ensures
+    total_by c.args.payload.now c.args.gates c.from_be_bytes-low.result c.from_be_bytes-high.result long c.from_be_bytes-low.ensures c.from_be_bytes-high.ensures c.if-low-high.false
+    (Some (listed c.in_ok-members.members)) c.in_ok-members.ensures

@@ -9,10 +9,10 @@ returns g c =
     let s = c.args.self.now in
     let m = g.S.Store.mean s.below in
     let m' = g.S.Store.mean c.bind.new.self in
-    let e = c.in-ok-left.ensures in
+    let e = c.in_ok-left.ensures in
     let k = bind_ok m m' c.args.g c.args.p _ e.meant in
     let by = narrowed_kept m m' c.args.g _ _ k.2 in
-    let fits = bound_within m m' c.args.g c.args.p _ k.2 _ _ c.width.ensures c.after-bind.ensures.one c.after-bind.ensures.none in
+    let fits = bound_within m m' c.args.g c.args.p _ k.2 _ _ c.width.ensures c.after_bind.ensures.one c.after_bind.ensures.none in
     let wrote = c.set.ensures in
     record {
       meant = e.meant;

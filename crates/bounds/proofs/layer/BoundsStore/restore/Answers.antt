@@ -8,9 +8,9 @@ returns g c =
     let s = c.args.self.now in
     let m = g.S.Store.mean s.below in
     let m' = g.S.Store.mean c.restore.new.self in
-    let e = c.in-ok-many.ensures in
+    let e = c.in_ok-many.ensures in
     let k = restore_ok m m' _ e.meant in
-    let many : c.in-ok-many.many ≡ length m.marks - 1 = cc k.1 in
+    let many : c.in_ok-many.many ≡ length m.marks - 1 = cc k.1 in
     let from = c.from.ensures in
     record {
       meant = e.meant;

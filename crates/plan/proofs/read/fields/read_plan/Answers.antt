@@ -9,7 +9,7 @@ use Rattle.plan.proofs.read.fields.read_plan.Goals as goal
 pub returns : goal.returns
 returns c =
     record {
-      value = c.read-fields.ensures;
-      meaning = subst (λ (r : Result Reading Fault). MeansOnly c.args.text.now r) (sym c.read-fields.ensures) (means_only c.args.text.now);
-      sound = sound c.args.text.now c.read-fields.result c.read-fields.ensures;
+      value = c.read_fields.ensures;
+      meaning = subst (λ (r : Result Reading Fault). MeansOnly c.args.text.now r) (sym c.read_fields.ensures) (means_only c.args.text.now);
+      sound = sound c.args.text.now c.read_fields.result c.read_fields.ensures;
     }

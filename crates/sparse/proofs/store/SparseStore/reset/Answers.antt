@@ -4,8 +4,8 @@ use Rattle.sparse.specs.Meanings.{meaning}
 use Rattle.sparse.proofs.Resets.{reset_fields, reset_means}
 use Rattle.sparse.proofs.store.SparseStore.reset.Goals as goal
 
-pub invariant-of-self : goal.invariant-of-self
-invariant-of-self c =
+pub invariant_of-self : goal.invariant_of-self
+invariant_of-self c =
     let s = c.args.self.now in
     let e = c.fill.ensures in
     reset_fields c.args.n c.args.w c.fill.new.self.dom.now c.fill.new.self.map.now s.marks

@@ -15,8 +15,8 @@ by_kind made text at tag len kind k e is same =
     ap (λ (r : Result _ Refusal). with_kind r at (take k (drop (at + 3) text))) is
     ∙ (ap (λ (n : ℕ). with_kind (with_payload made tag len (length text - (at + 3))) at (take n (drop (at + 3) text))) same ∙ by_prefix made text at (Some (tag, len)) e)
 
-pub returns-in-default : goal.returns-in-default
-returns-in-default g c = record { value = by_prefix g.K.Kinds.made c.args.text.now c.args.place None c.in-default.ensures; inside = c.requires }
+pub returns-in_default : goal.returns-in_default
+returns-in_default g c = record { value = by_prefix g.K.Kinds.made c.args.text.now c.args.place None c.in_default.ensures; inside = c.requires }
 
 pub returns-in-Ok : goal.returns-in-Ok
 returns-in-Ok g c =
