@@ -123,8 +123,14 @@ module _ (s : Sparse) where
     hb : b < s.width
     hb = omega (arith, s.sizes.1 g hg)
 
-    pub swap_needs : ((g * s.width + a < length dom) × (g * s.width + b < length dom)) × ((g * s.width + D g a < length map) × (g * s.width + D g b < length map))
-    swap_needs = ((in_dom g a hg ha, in_dom g b hg hb), (in_map g (D g a) hg ((perm s g hg).0 a ha).0, in_map g (D g b) hg ((perm s g hg).0 b hb).0))
+    pub swap_needs : record {
+      dom_room : (g * s.width + a < length dom) × (g * s.width + b < length dom);
+      map_room : (g * s.width + D g a < length map) × (g * s.width + D g b < length map);
+    }
+    swap_needs = record {
+      dom_room = (in_dom g a hg ha, in_dom g b hg hb);
+      map_room = (in_map g (D g a) hg ((perm s g hg).0 a ha).0, in_map g (D g b) hg ((perm s g hg).0 b hb).0);
+    }
 
     module _ (dom' map' : List ℕ) (e : dom' ≡ dom_swapped dom (g * s.width) a b) (f : map' ≡ map_swapped dom map (g * s.width) a b) where
       pub swapped : Moved (g * s.width) s.width (get_or s.size g 0) dom map dom' map'

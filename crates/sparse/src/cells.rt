@@ -41,8 +41,8 @@ impl<'a> Cells<'a> {
 
     /// Exchanges the positions at places a and b of the gate with this base.
     pub fn swap(&mut self, base: usize, a: u16, b: u16)
-        requires a_in_bounds { (base + a < length self.old.dom.now) × (base + b < length self.old.dom.now) }
-        requires a_in_bounds_2 { (base + from self.old.dom.now base a < length self.old.map.now) × (base + from self.old.dom.now base b < length self.old.map.now) }
+        requires dom_room { (base + a < length self.old.dom.now) × (base + b < length self.old.dom.now) }
+        requires map_room { (base + from self.old.dom.now base a < length self.old.map.now) × (base + from self.old.dom.now base b < length self.old.map.now) }
         ensures dom { self.new.dom.now ≡ dom_swapped self.old.dom.now base a b }
         ensures map { self.new.map.now ≡ map_swapped self.old.dom.now self.old.map.now base a b }
     {
@@ -56,8 +56,8 @@ impl<'a> Cells<'a> {
 
     /// Exchanges the position at this place with the one at the first.
     pub fn to_front(&mut self, base: usize, at: u16)
-        requires at_in_bounds { (base + at < length self.old.dom.now) × (base + 0 < length self.old.dom.now) }
-        requires at_in_bounds_2 { (base + from self.old.dom.now base at < length self.old.map.now) × (base + from self.old.dom.now base 0 < length self.old.map.now) }
+        requires dom_room { (base + at < length self.old.dom.now) × (base + 0 < length self.old.dom.now) }
+        requires map_room { (base + from self.old.dom.now base at < length self.old.map.now) × (base + from self.old.dom.now base 0 < length self.old.map.now) }
         ensures dom { self.new.dom.now ≡ dom_swapped self.old.dom.now base at 0 }
         ensures map { self.new.map.now ≡ map_swapped self.old.dom.now self.old.map.now base at 0 }
     {
