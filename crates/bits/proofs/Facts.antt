@@ -12,13 +12,20 @@ use Rattle.bits.specs.declared.Bits.{Bits}
 
 -- all ghost fields of a store with these parts
 abbrev pub Facts : ℕ → List Record → ℕ → ℕ → List Row → List ℕ → List ℕ → ℕ → Type 0
-Facts cap xs n w rows count marks depth =
-    Fit cap n w depth × (Long rows count marks × (Listed xs n w × (Apart xs × (Tied xs n w rows × (Counts xs n w count × (Marks xs marks depth × Unit {0}))))))
+Facts cap xs n w rows count marks depth = record {
+  fit : Fit cap n w depth;
+  long : Long rows count marks;
+  listed : Listed xs n w;
+  apart : Apart xs;
+  tied : Tied xs n w rows;
+  counts : Counts xs n w count;
+  marked : Marks xs marks depth;
+}
 
 pub facts : (cap : ℕ) (xs : List Record) (n w : ℕ) (rows : List Row) (count marks : List ℕ) (depth : ℕ)
     → Fit cap n w depth → Long rows count marks → Listed xs n w → Apart xs → Tied xs n w rows → Counts xs n w count → Marks xs marks depth
     → Facts cap xs n w rows count marks depth
-facts cap xs n w rows count marks depth a b c d e f g = (a, (b, (c, (d, (e, (f, (g, tt)))))))
+facts cap xs n w rows count marks depth a b c d e f g = record { fit = a; long = b; listed = c; apart = d; tied = e; counts = f; marked = g }
 
 -- what is on the trail
 abbrev pub on : Bits → List Record
