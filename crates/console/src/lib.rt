@@ -42,7 +42,8 @@ fn add_stop(out: &mut String, fault: Fault) -> Result<(), AllocError>
 {
     let number = fault.refusal.number();
     let place = fault.place;
-    let line = format!(in out.allocator(); "stop {number} at {place}\n")?;
+    let heap = *out.allocator();
+    let line = format!(in heap; "stop {number} at {place}\n")?;
     out.push_str(line.as_str())?;
     Ok(())
 }

@@ -41,7 +41,8 @@ pub fn add_stop(out: &mut String, fault: Fault) -> Result<(), AllocError>
 {
     let number = fault.refusal.number();
     let place = fault.place;
-    let line = format!(in out.allocator(); "stop {number} at {place}\n")?;
+    let heap = *out.allocator();
+    let line = format!(in heap; "stop {number} at {place}\n")?;
     out.push_str(line.as_str())?;
     Ok(())
 }
@@ -50,7 +51,8 @@ pub fn add_stop(out: &mut String, fault: Fault) -> Result<(), AllocError>
 fn add_number(out: &mut String, n: u16) -> Result<(), AllocError>
     ensures { OnOk result (string_bytes out.new ≡ string_bytes out.old ++ spaced (n ∷ [])) }
 {
-    let word = format!(in out.allocator(); " {n}")?;
+    let heap = *out.allocator();
+    let word = format!(in heap; " {n}")?;
     out.push_str(word.as_str())?;
     Ok(())
 }
@@ -72,7 +74,8 @@ pub fn add_denied(out: &mut String, word: &str, refusal: Refusal) -> Result<(), 
     ensures { OnOk result (string_bytes out.new ≡ string_bytes out.old ++ denied_line word.now refusal) }
 {
     let number = refusal.number();
-    let line = format!(in out.allocator(); "{word} no {number}\n")?;
+    let heap = *out.allocator();
+    let line = format!(in heap; "{word} no {number}\n")?;
     out.push_str(line.as_str())?;
     Ok(())
 }
