@@ -16,9 +16,10 @@ fn add_many(
     word: &str,
     answer: Result<usize, Refusal>,
 ) -> Result<(), AllocError> {
+    let heap = *out.allocator();
     let line = match answer {
-        Ok(n) => format!(in out.allocator(); "{word} {n}\n")?,
-        Err(refusal) => format!(in out.allocator(); "{word} no {}\n", refusal.number())?,
+        Ok(n) => format!(in heap; "{word} {n}\n")?,
+        Err(refusal) => format!(in heap; "{word} no {}\n", refusal.number())?,
     };
     out.push_str(line.as_str())
 }
@@ -188,13 +189,10 @@ fn add_load<S: Store>(
     planner: &mut Planner<S>,
     text: &[u8],
 ) -> Result<(), AllocError> {
+    let heap = *out.allocator();
     let line = match planner.load(text) {
-        Ok(read) => format!(in out.allocator(); "load {read}\n")?,
-        Err(fault) => format!(in out.allocator();
-            "load no {} at {}\n",
-            fault.refusal.number(),
-            fault.place
-        )?,
+        Ok(read) => format!(in heap; "load {read}\n")?,
+        Err(fault) => format!(in heap; "load no {} at {}\n", fault.refusal.number(), fault.place)?,
     };
     out.push_str(line.as_str())
 }

@@ -16,5 +16,5 @@ returns-in-Ok g c =
     c.in-Ok.ensures.answer ∙ ap (λ st. load_answer (g.S.Store.mean st).cells (plan_text input)) c.new-planner.ensures.store in
     let x = found cells c.in-Ok.read (plan_text input) answer in
     let both = c.in-Ok.ensures.made x.0 x.1 refl in
-    printed cells c.in-Ok.read input (string_bytes c.add_calls.new.out) (string_bytes c.in_ok-out.out) (omega (arith, c.if-input-gt-INPUT.false)) answer x.0 x.1
-    (state g.S.Store.mean c.load.new.self) both.1 (c.in_ok-out.ensures x.0.load both.0.given) (c.in_ok-add_calls.ensures x.0.load both.0)
+    printed cells c.in-Ok.read input (string_bytes c.add_calls.new.out) (string_bytes c.in_ok-out-in-Ok.out) (omega (arith, c.if-input-gt-INPUT.false)) answer x.0 x.1
+    (state g.S.Store.mean c.load.new.self) both.1 (c.in_ok-out-in-Ok.ensures x.0.load both.0.given) (c.in_ok-add_calls-in-Ok.ensures x.0.load both.0)

@@ -43,7 +43,7 @@ loop-reader-preserved g c =
       subst (λ (t : List ℕ). place_of c.next.new.self ≤ length t) text c.next.new.self.inside,
       λ load h.
           let so = inv.2 load h in
-          let one = c.in_ok-add_call.ensures load so.0 in
+          let one = c.in_ok-add_call-in-Ok.ensures load so.0 in
           let line = one.1 in
           let out = so.1 in (
             one.0,
@@ -66,6 +66,6 @@ returns-in-Err g c = λ load h.
     let out = so.1 in
     let e = c.in-Err.fault in (
       out.0 ++ stop_line e,
-      adds_both (string_bytes c.args.out.now) (string_bytes c.loop-reader.out) (string_bytes c.add_stop.new.out) out.0 (stop_line e) out.1 c.in_ok-add_stop.ensures,
+      adds_both (string_bytes c.args.out.now) (string_bytes c.loop-reader.out) (string_bytes c.add_stop.new.out) out.0 (stop_line e) out.1 c.in_ok-add_stop-in-Err.ensures,
       record { last = _; at = from; lines = out.0; goes = out.2; ends = inr (omega (arith, c.place.ensures), (e, ap (λ (t : List ℕ). field_at call_kind t from) (sym inv.0) ∙ sym c.in-Err.ensures.value, refl)) },
     )
