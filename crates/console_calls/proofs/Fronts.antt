@@ -1,5 +1,5 @@
 -- What stands at the front of a list.
-use Rattle.std.proofs.Common.{◌≡◌, ℕ, ◌+◌, ◌-◌, ◌<◌, ◌≤◌, List, [], ◌∷◌, ◌++◌, length, get_or, take, drop, set, Ok, Result, sym, refl, ap, ◌∙◌, subst, ap₂, arith, length-drop, length-set}
+use Rattle.std.proofs.Common.{◌≡◌, ℕ, ◌+◌, ◌<◌, ◌≤◌, List, [], ◌∷◌, ◌++◌, length, get_or, take, drop, set, Ok, Result, sym, refl, ap, ◌∙◌, subst, ap₂, arith, length-drop, length-set}
 use Rattle.std.proofs.lemmas.List.{take_more, take-set-le, get_or-set_same, get_or-drop}
 use Rattle.model.specs.declared.refusal.Refusal.{Refusal}
 use Rattle.console_calls.specs.Making.{Put}

@@ -1,5 +1,5 @@
 -- Small cases by trying them all.
-use Rattle.std.proofs.Common.{◌≡◌, ℕ, zero, suc, ◌+◌, ◌<◌, Bool, true, false, not, ◌&&◌, ◌||◌, T, eqb, ltb, leb, ◌⊎◌, List, [], ◌∷◌, length, ℤ, pos, ◌+ℤ◌, Some, None, sym, refl, subst, ap₂, inl, inr, ⊎_elim, arith, le→leb, eqb→eq, ltb→lt, leb→le}
+use Rattle.std.proofs.Common.{◌≡◌, ℕ, zero, suc, ◌<◌, Bool, true, false, not, ◌&&◌, ◌||◌, T, eqb, ltb, leb, ◌⊎◌, List, [], ◌∷◌, length, pos, ◌+ℤ◌, Some, None, sym, refl, subst, ap₂, inl, inr, ⊎_elim, arith, le→leb, eqb→eq, ltb→lt, leb→le}
 use mathlib.Core.List.Memᴰ
 use native.Mathlib.Nat.{suc_inj}
 use Rattle.model.specs.Families.{Family, Inside, has, ◌∈◌}

@@ -1,5 +1,5 @@
 -- Where strings end: which settings are permitted, and that two strings meet.
-use Rattle.std.proofs.Common.{◌≡◌, ℕ, ◌<◌, not, ◌&&◌, T, eqb, ltb, List, [], ◌∷◌, ◌++◌, None, sym, refl, ap, ◌∙◌, subst, arith, eqb→eq, ltb→lt}
+use Rattle.std.proofs.Common.{◌≡◌, ℕ, ◌<◌, ◌&&◌, T, eqb, ltb, List, [], ◌∷◌, ◌++◌, None, sym, refl, ap, ◌∙◌, subst, arith, eqb→eq, ltb→lt}
 use mathlib.Core.List.Memᴰ
 use lib.Dec.{eqb_refl}
 use Rattle.model.specs.Families.{Family, Inside, has, ◌∈◌}

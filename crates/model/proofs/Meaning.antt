@@ -1,5 +1,5 @@
 -- What a planner means is a ledger, with the ledgers that its open saves would bring back.
-use Rattle.std.proofs.Common.{◌≡◌, ℕ, zero, suc, ◌+◌, ◌<◌, ◌≤◌, Bool, true, false, cond, not, ◌&&◌, ◌||◌, T, eqb, ltb, List, [], ◌∷◌, ◌++◌, length, take, drop, None, Option, sym, refl, ap, ◌∙◌, subst, ap₂, ⊎_elim, le_refl, arith, eqb→eq, ltb→lt, lt→ltb, length-append, take-append-drop}
+use Rattle.std.proofs.Common.{◌≡◌, ℕ, zero, suc, ◌<◌, ◌≤◌, Bool, true, false, cond, not, ◌&&◌, ◌||◌, T, eqb, ltb, List, [], ◌∷◌, ◌++◌, length, take, drop, None, Option, sym, refl, ap, ◌∙◌, subst, ap₂, ⊎_elim, le_refl, arith, eqb→eq, ltb→lt, lt→ltb, length-append, take-append-drop}
 use mathlib.Core.Path.{fun_ext}
 use mathlib.Core.Bool.{or_assoc}
 use lib.Seq.{take-append-le, take-length}

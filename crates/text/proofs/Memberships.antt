@@ -5,7 +5,6 @@ use Rattle.std.proofs.lemmas.Bool.Decides.{nat_tests}
 use Rattle.std.proofs.lemmas.Bool.{and_left, and_right, lt-leb, le-leb, cond-false, cond-true, and_from}
 use Rattle.model.specs.Bounds.{most_members}
 use Rattle.model.specs.Members.{member_of, has_gate, gates_differ}
-use Rattle.model.specs.Rules.{total}
 use Rattle.model.specs.declared.rule.member.Member.{Member}
 use Rattle.text.specs.Tests.{within}
 use Rattle.text.specs.Payloads.{members_in, gates_below, members_of, quad_at, with_members, total_in}

@@ -3,7 +3,7 @@ use Rattle.std.proofs.lemmas.Bool.{both_ways}
 use Rattle.model.specs.Plans.{Plan, Load}
 use Rattle.model.specs.Calls.{show}
 use Rattle.model.specs.Planners as model
-use Rattle.store.specs.Meaning.{Meaning, domains, domain}
+use Rattle.store.specs.Meaning.{Meaning, domains}
 use Rattle.store.proofs.Counts.{ascending_agree}
 use Rattle.planner.specs.declared.Planner.{Planner as Held}
 use Rattle.planner.specs.States.{state, Holds}
