@@ -4,9 +4,9 @@
 ghost use Rattle.stack.specs.Stacks.{items, room};
 ghost use Rattle.bits.specs.Representation.{Fit, Long, Listed, Apart, Tied, Counts, Marks};
 
+pub mod as_store;
 pub mod entry;
 mod make;
-pub mod store;
 
 use entry::Record;
 use model::bounds::{GATES, MARKS};

@@ -6,9 +6,9 @@ ghost use Rattle.sparse.specs.Arrays.{Room, Perms, Sizes, Table, Fall, Since, Wi
 use cells::Cells;
 use model::bounds::{GATES, MARKS};
 
+pub mod as_store;
 mod cells;
 mod gate;
-pub mod store;
 mod undo;
 
 /// The first `size[g]` places of gate g are its domain; the others hold what has left it, the newest first.

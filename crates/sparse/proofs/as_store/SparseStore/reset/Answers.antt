@@ -2,7 +2,7 @@ use Rattle.std.proofs.Common.{refl, arith}
 use Rattle.std.proofs.lemmas.Bool.{both_ways}
 use Rattle.sparse.specs.Meanings.{meaning}
 use Rattle.sparse.proofs.Resets.{reset_fields, reset_means}
-use Rattle.sparse.proofs.store.SparseStore.reset.Goals as goal
+use Rattle.sparse.proofs.as_store.SparseStore.reset.Goals as goal
 
 pub invariant_of-self : goal.invariant_of-self
 invariant_of-self c =

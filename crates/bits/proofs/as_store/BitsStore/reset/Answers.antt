@@ -1,7 +1,7 @@
 use Rattle.std.proofs.Common.{arith}
 use Rattle.stack.specs.Stacks.{items, room}
 use Rattle.bits.proofs.Facts.{reset_kept}
-use Rattle.bits.proofs.store.BitsStore.reset.Goals as goal
+use Rattle.bits.proofs.as_store.BitsStore.reset.Goals as goal
 
 pub invariant_of-self : goal.invariant_of-self
 invariant_of-self c =

@@ -3,7 +3,7 @@ use Rattle.std.proofs.lemmas.Bool.{cases_lt}
 use Rattle.model.specs.Families.{has}
 use Rattle.sparse.specs.Meanings.{meaning}
 use Rattle.sparse.proofs.Calls.{in_map, shut_at, open_at}
-use Rattle.sparse.proofs.store.SparseStore.highest.Goals as goal
+use Rattle.sparse.proofs.as_store.SparseStore.highest.Goals as goal
 
 pub bounds-self-base : goal.bounds-self-base
 bounds-self-base c = in_map c.args.self.now c.args.g (c.loop-p.p - 1) c.if-g-self.false (omega arith)

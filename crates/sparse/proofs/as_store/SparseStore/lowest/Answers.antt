@@ -1,6 +1,6 @@
 use Rattle.std.proofs.Common.{Some, refl, arith, below_more}
 use Rattle.sparse.proofs.Calls.{in_map, shut_at, open_at}
-use Rattle.sparse.proofs.store.SparseStore.lowest.Goals as goal
+use Rattle.sparse.proofs.as_store.SparseStore.lowest.Goals as goal
 
 pub bounds-self-base : goal.bounds-self-base
 bounds-self-base c = in_map c.args.self.now c.args.g c.loop-p.p c.if-g-self.false c.loop-p-test.true
