@@ -1,5 +1,5 @@
 -- How the bits and the trail of a bit store stand for its gates.
-use Rattle.std.specs.Prelude.{◌≡◌, ℕ, zero, suc, ◌-◌, ◌*◌, ◌<◌, ◌≤◌, not, ◌&&◌, List, [], ◌∷◌, map, length, get_or, take, filter, nat_eq, nat_lt, slice_index, slice_index_or}
+use Rattle.std.specs.Prelude.{◌≡◌, ℕ, zero, suc, ◌-◌, ◌*◌, ◌<◌, ◌≤◌, not, ◌&&◌, List, [], ◌∷◌, map, length, take, filter, nat_eq, nat_lt, slice_index, slice_index_or}
 use Rattle.model.specs.Bounds.{most_gates, most_width, most_marks}
 use Rattle.model.specs.Families.{has}
 use Rattle.rows.specs.declared.Row.{Row}
@@ -29,7 +29,7 @@ Long rows count marks = (length rows ≡ most_gates) × (length count ≡ most_g
 
 -- each record names a gate and a position that there are
 abbrev pub Listed : List Record → ℕ → ℕ → Type 0
-Listed xs n w = (x : (i : ℕ) × (i < length xs)) → ((get_or xs x.0 bare).gate < n) × ((get_or xs x.0 bare).position < w)
+Listed xs n w = (x : (i : ℕ) × (i < length xs)) → ((slice_index_or xs x.0 bare).gate < n) × ((slice_index_or xs x.0 bare).position < w)
 
 -- no position leaves its gate twice
 abbrev pub Apart : List Record → Type 0

@@ -1,5 +1,5 @@
 // What is done to the book of notes.
-ghost use Rattle.std.specs.Prelude.{◌≡◌, ◌+◌, ◌-◌, ◌<◌, ltb, length, get_or, set, replicate};
+ghost use Rattle.std.specs.Prelude.{◌≡◌, ◌+◌, ◌-◌, ◌<◌, length, replicate, nat_lt, slice_index_or, slice_set};
 ghost use Rattle.model.specs.Bounds.{most_gates, most_saves, readers};
 ghost use Rattle.book.specs.Notes.{blank, notes_in};
 
@@ -23,14 +23,14 @@ impl Book {
 
     /// Whether one save more may be opened.
     pub fn has_room(&self) -> bool
-        ensures { result ≡ ltb self.now.depth most_saves }
+        ensures { result ≡ nat_lt self.now.depth most_saves }
     {
         self.depth < SAVES
     }
 
     /// Whether a save is open.
     pub fn has_save(&self) -> bool
-        ensures { result ≡ ltb 0 self.now.depth }
+        ensures { result ≡ nat_lt 0 self.now.depth }
     {
         0 < self.depth
     }
@@ -39,7 +39,7 @@ impl Book {
     pub fn save(&mut self)
         requires { self.old.depth < most_saves }
         ensures notes { self.new.notes ≡ self.old.notes }
-        ensures saved { self.new.saved ≡ set self.old.saved self.old.depth self.old.notes }
+        ensures saved { self.new.saved ≡ slice_set self.old.saved self.old.depth self.old.notes }
         ensures opened { self.new.depth ≡ self.old.depth + 1 }
     {
         self.saved[self.depth] = self.notes;
@@ -49,7 +49,7 @@ impl Book {
     /// Closes the newest save, and puts all notes back as they were then.
     pub fn restore(&mut self)
         requires { 0 < self.old.depth }
-        ensures notes { self.new.notes ≡ get_or self.old.saved (self.old.depth - 1) blank }
+        ensures notes { self.new.notes ≡ slice_index_or self.old.saved (self.old.depth - 1) blank }
         ensures saved { self.new.saved ≡ self.old.saved }
         ensures closed { self.new.depth ≡ self.old.depth - 1 }
     {
@@ -61,7 +61,7 @@ impl Book {
     /// A reader notes: its one entry is overwritten.
     pub fn note(&mut self, r: usize, lengths: [u16; GATES])
         requires { r < readers }
-        ensures notes { self.new.notes.rows ≡ set self.old.notes.rows r lengths }
+        ensures notes { self.new.notes.rows ≡ slice_set self.old.notes.rows r lengths }
         ensures saved { self.new.saved ≡ self.old.saved }
         ensures depth { self.new.depth ≡ self.old.depth }
         ensures long { length self.old.notes.rows ≡ readers }

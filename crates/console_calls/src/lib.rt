@@ -1,4 +1,4 @@
-// What the program gateplan prints on its input: the lines, as one text.
+// What the program gateplan_calls prints on its input: the lines, as one text.
 #![tactic(auto)]
 
 ghost use Rattle.std.specs.Prelude.{IfOk, string_bytes};

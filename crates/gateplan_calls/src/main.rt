@@ -1,4 +1,4 @@
-// Reads a plan and calls from standard input, and prints what console says, over a keeper of bounds on a sparse store.
+// Reads a plan and calls from standard input, and prints what console_calls says, over a keeper of bounds on a sparse store.
 #![tactic(auto)]
 
 use console_calls::{INPUT, kept_output};

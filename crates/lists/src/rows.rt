@@ -1,5 +1,5 @@
 // Rows of marks, and what a store says of a gate in one.
-ghost use Rattle.std.specs.Prelude.{◌≡◌, ℕ, ◌<◌, ◌≤◌, true, false, length, drop, slice_index, slice_index_or};
+ghost use Rattle.std.specs.Prelude.{◌≡◌, ℕ, ◌<◌, ◌≤◌, false, length, drop, slice_index, slice_index_or};
 ghost use Rattle.model.specs.Families.{has};
 ghost use Rattle.model.specs.Bounds.{most_width};
 ghost use Rattle.store.specs.Meaning.{domains};

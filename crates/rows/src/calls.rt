@@ -1,5 +1,5 @@
 // What a row does.
-ghost use Rattle.std.specs.Prelude.{◌≡◌, ℕ, ◌+◌, ◌-◌, ◌*◌, ◌/◌, ◌%◌, ◌<◌, not, ◌&&◌, ◌||◌, ltb, ◌==◌, nat_lt, slice_index};
+ghost use Rattle.std.specs.Prelude.{◌≡◌, ℕ, ◌+◌, ◌-◌, ◌*◌, ◌/◌, ◌%◌, ◌<◌, not, ◌&&◌, ◌||◌, ◌==◌, nat_lt, slice_index};
 ghost use Rattle.rows.specs.Rows.{bit, lit, Holds, Next, Last};
 
 use crate::{BITS, Row, WORDS};
@@ -31,7 +31,7 @@ fn place(p: u8) -> (usize, usize)
 impl Row {
     /// The positions below w.
     pub fn below(w: usize) -> Row
-        ensures { Holds result (λ q. ltb q w) }
+        ensures { Holds result (λ q. nat_lt q w) }
     {
         Row {
             words: [

@@ -1,4 +1,4 @@
--- The ghost fields of a store, as a need asks for them.
+-- The ghost fields of a store, as a goal asks for them.
 use Rattle.std.proofs.Common.{ℕ, List}
 use Rattle.sparse.specs.Arrays.{Room, Perms, Sizes, Table, Fall, Since, Within}
 

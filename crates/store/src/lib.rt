@@ -1,8 +1,7 @@
 // The interface of every store: gates, the positions that have left each of them, and marks to come back to.
 #![tactic(auto)]
 
-ghost use Rattle.std.specs.Prelude.{◌≡◌, ◌-◌, ◌<◌, false, is_ok, Ok};
-ghost use Rattle.model.specs.Families.{has};
+ghost use Rattle.std.specs.Prelude.{◌≡◌, false, is_ok, Ok};
 ghost use Rattle.store.specs.Meaning.{Meaning, Sound, domains};
 ghost use Rattle.store.specs.Calls.{Reset, Strike, Bind, Keep, Save, Restore, Contains, Count, Gone, Lowest, Highest, NextOpen};
 
