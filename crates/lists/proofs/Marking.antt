@@ -83,6 +83,11 @@ all_false zero p = refl
 all_false (suc n) zero = refl
 all_false (suc n) (suc p) = all_false n p
 
+pub all_zero : (n p : ℕ) → ◌≡◌ {A = ℕ} (get_or (replicate n 0) p 0) 0
+all_zero zero p = refl
+all_zero (suc n) zero = refl
+all_zero (suc n) (suc p) = all_zero n p
+
 -- what a written list says
 pub written_some : (xs list : List ℕ) (n : ℕ) (after : List ℕ) → Written xs list (Some n) after
     → (length xs ≤ length list) × (n ≡ length xs) × (after ≡ xs ++ drop (length xs) list)
