@@ -1,5 +1,6 @@
 -- A planner by what it means: what its store means (gone lists and marks), its notes, and what each call does to them.
 use Rattle.std.specs.Prelude.{◌≡◌, ℕ, ◌<◌, Bool, true, false, cond, not, ◌&&◌, T, List, [], ◌∷◌, ◌++◌, length, take, drop, Some, None, Option, ◌==◌, nat_le, nat_lt}
+use Rattle.std.specs.List.{list_all}
 use Rattle.model.specs.declared.refusal.Refusal.{Refusal}
 use Rattle.model.specs.declared.refusal.Refusal.TheVariants.{NoGate, NoPosition, TooManySaves, NoSave, NoReader, ListTooShort}
 use Rattle.model.specs.Bounds.{readers, most_saves}
@@ -20,13 +21,13 @@ pub record Planner : Type 0 where
   pub notes : ℕ → ℕ → ℕ
   pub saves : List Save
 
--- the domains that such gone lists leave
-abbrev pub open_beside : Plan → (ℕ → List ℕ) → Family
-open_beside plan gone g p = nat_lt g plan.gates && (nat_lt p plan.width && not (has (gone g) p))
-
 -- the domains that the gone lists of so many gates, each of such a width, leave
 abbrev pub open_in : ℕ → ℕ → (ℕ → List ℕ) → Family
 open_in gates width gone g p = nat_lt g gates && (nat_lt p width && not (has (gone g) p))
+
+-- the same of a plan's gates
+abbrev pub open_beside : Plan → (ℕ → List ℕ) → Family
+open_beside plan gone = open_in plan.gates plan.width gone
 
 abbrev pub domains_of : Plan → Planner → Family
 domains_of plan s = open_beside plan s.gone
@@ -46,8 +47,7 @@ Once (p ∷ ps) = (T (has ps p) → ⊥) × Once ps
 
 -- all of the list are below w
 abbrev pub all_below : ℕ → List ℕ → Bool
-all_below w [] = true
-all_below w (p ∷ ps) = nat_lt p w && all_below w ps
+all_below w ps = list_all (λ p. nat_lt p w) ps
 
 -- where the test fails this refusal, else what is said next
 abbrev pub unless : Bool → Refusal → Option Refusal → Option Refusal

@@ -6,7 +6,7 @@ use Rattle.model.specs.Bounds.{most_gates, most_width, most_marks}
 use Rattle.model.specs.Families.{has}
 use Rattle.model.specs.Planners.{all_below}
 use Rattle.store.specs.Meaning.{Meaning, appended, fresh, saved, restored}
-use Rattle.store.specs.Calls.{Reset, Strike, Bind, Keep, Kept, Save, Restore}
+use Rattle.store.specs.Calls.{Takes, Reset, Strike, Bind, Keep, Kept, Save, Restore}
 
 pub not_both : {A : Type 0} (a : A) (k : Refusal) → ◌≡◌ {A = Result A Refusal} (Ok a) (Err k) → ⊥
 not_both a k e = let z : ◌≡◌ {A = ℕ} 0 1 = cc e in omega arith
@@ -16,14 +16,6 @@ pick A d f = ⊎_elim (λ a. a) (λ b. absurd (f b)) d
 
 flip : {A B : Type 0} → A ⊎ B → B ⊎ A
 flip d = ⊎_elim (λ a. inr a) (λ b. inl b) d
-
--- how many gates and positions there are, and that they fit
-pub record Takes (m : Meaning) (n w : ℕ) : Type 0 where
-  pub some_gates : 1 ≤ n
-  pub few_gates : n ≤ most_gates
-  pub some_positions : 1 ≤ w
-  pub few_positions : w ≤ most_width
-  pub room : n * w ≤ m.cells
 
 pub reset_ok : (m m' : Meaning) (n w : ℕ) → Reset m n w (Ok (tt {0})) m' → Takes m n w × (m' ≡ fresh m.cells n w)
 reset_ok m m' n w r =

@@ -1,10 +1,13 @@
 -- What it takes to be open, and what a strike or a bind leaves open.
-use Rattle.std.proofs.Common.{◌≡◌, ℕ, ◌<◌, ◌≤◌, Bool, true, false, not, ◌&&◌, T, ltb, Ok, Err, Result, sym, refl, ap, ◌∙◌, subst, ⊎_elim, arith, ltb→lt, lt→ltb}
+use Rattle.std.proofs.Common.{◌≡◌, ℕ, ◌<◌, ◌≤◌, Bool, true, false, not, ◌&&◌, T, ltb, Some, None, Ok, Err, Option, Result, sym, refl, ap, ◌∙◌, subst, ⊎_elim, arith, ltb→lt, lt→ltb}
 use Rattle.std.proofs.lemmas.Bool.{cases_lt, lt-ltb, le-ltb, and_left, and_right}
+use Rattle.std.specs.Option.{MatchOption}
+use Rattle.std.specs.Result.{result_unwrap_or}
 use Rattle.model.specs.declared.refusal.Refusal.{Refusal}
 use Rattle.model.specs.Families.{has}
 use Rattle.store.specs.Meaning.{Meaning, domains}
-use Rattle.store.specs.Calls.{Contains, yes}
+use Rattle.store.specs.Calls.{Contains, NextOpen}
+use Rattle.store.proofs.Members.{false_not, true_is}
 
 and_T : (a b : Bool) → T a → T b → T (a && b)
 and_T true b p q = q
@@ -71,6 +74,18 @@ module _ (m : Meaning) (g p : ℕ) where
       (cases_lt g m.gates)
 
   -- what contains answers, a refusal being no
-  pub contains_yes : (r : Result Bool Refusal) → Contains m g p r → yes r ≡ domains m g p
+  pub contains_yes : (r : Result Bool Refusal) → Contains m g p r → result_unwrap_or r false ≡ domains m g p
   contains_yes (Ok b) k = contains_open (Ok b) k b refl
   contains_yes (Err x) k = refused_shut (Err x) k x refl
+
+-- the first that a search up to the width finds open
+pub next_found : (m : Meaning) (g from : ℕ) (r : Option ℕ)
+    → MatchOption r ((k : ℕ) → from ≤ k → k < m.width → domains m g k ≡ false)
+    (λ i. (from ≤ i) × (i < m.width) × (domains m g i ≡ true) × ((k : ℕ) → from ≤ k → k < i → domains m g k ≡ false))
+    → NextOpen m g from r
+next_found m g from None none = λ q a t. false_not (domains m g q) (none q a (open_width m g q t)) t
+next_found m g from (Some i) found = (
+  found.0,
+  true_is (domains m g i) found.2,
+  λ q a t. ⊎_elim (λ (l : q < i). absurd (false_not (domains m g q) (found.3 q a l) t)) (λ (l : i ≤ q). l) (cases_lt q i),
+)

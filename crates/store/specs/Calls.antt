@@ -56,11 +56,6 @@ pub record Contains (m : Meaning) (g p : ℕ) (r : Result Bool Refusal) : Type 0
   pub position : g < m.gates → m.width ≤ p → r ≡ Err NoPosition
   pub answer : g < m.gates → p < m.width → r ≡ Ok (not (has (m.gone g) p))
 
--- yes only where it was answered so
-abbrev pub yes : Result Bool Refusal → Bool
-yes (Ok b) = b
-yes (Err k) = false
-
 pub record Count (m : Meaning) (g : ℕ) (r : Result ℕ Refusal) : Type 0 where
   pub gate : m.gates ≤ g → r ≡ Err NoGate
   pub answer : g < m.gates → r ≡ Ok (left m g)
@@ -92,3 +87,41 @@ pub record Highest (m : Meaning) (g : ℕ) (r : Result (Option ℕ) Refusal) : T
 abbrev pub NextOpen : Meaning → ℕ → ℕ → Option ℕ → Type 0
 NextOpen m g from None = (q : ℕ) → from ≤ q → T (domains m g q) → ⊥
 NextOpen m g from (Some p) = (from ≤ p) × T (domains m g p) × ((q : ℕ) → from ≤ q → T (domains m g q) → p ≤ q)
+
+-- the gate is there, or is refused
+pub record GateCheck (m : Meaning) (g : ℕ) (r : Result (Unit {0}) Refusal) : Type 0 where
+  pub there : r ≡ Ok tt → g < m.gates
+  pub done : g < m.gates → r ≡ Ok tt
+  pub gate : m.gates ≤ g → r ≡ Err NoGate
+
+-- the gate and the position are there, or the first of them that is not is refused
+pub record PositionCheck (m : Meaning) (g p : ℕ) (r : Result (Unit {0}) Refusal) : Type 0 where
+  pub there : r ≡ Ok tt → (g < m.gates) × (p < m.width)
+  pub done : g < m.gates → p < m.width → r ≡ Ok tt
+  pub gate : m.gates ≤ g → r ≡ Err NoGate
+  pub position : g < m.gates → m.width ≤ p → r ≡ Err NoPosition
+
+-- the gate and all positions of the list are there, or the gate is refused, or the list
+pub record ListCheck (m : Meaning) (g : ℕ) (list : List ℕ) (r : Result (Unit {0}) Refusal) : Type 0 where
+  pub there : r ≡ Ok tt → (g < m.gates) × (all_below m.width list ≡ true)
+  pub done : g < m.gates → all_below m.width list ≡ true → r ≡ Ok tt
+  pub gate : m.gates ≤ g → r ≡ Err NoGate
+  pub position : g < m.gates → all_below m.width list ≡ false → r ≡ Err NoPosition
+
+-- how many gates and positions there may be
+pub record Takes (m : Meaning) (n w : ℕ) : Type 0 where
+  pub some_gates : 1 ≤ n
+  pub few_gates : n ≤ most_gates
+  pub some_positions : 1 ≤ w
+  pub few_positions : w ≤ most_width
+  pub room : n * w ≤ m.cells
+
+-- so many gates and positions can be taken, or are refused
+pub record SizeCheck (m : Meaning) (n w : ℕ) (r : Result (Unit {0}) Refusal) : Type 0 where
+  pub takes : r ≡ Ok tt → Takes m n w
+  pub done : 1 ≤ n → n ≤ most_gates → 1 ≤ w → w ≤ most_width → n * w ≤ m.cells → r ≡ Ok tt
+  pub no_gate : n ≡ 0 → r ≡ Err NoRoom
+  pub many_gates : most_gates < n → r ≡ Err NoRoom
+  pub no_position : w ≡ 0 → r ≡ Err NoRoom
+  pub wide : most_width < w → r ≡ Err NoRoom
+  pub large : m.cells < n * w → r ≡ Err NoRoom
