@@ -351,7 +351,7 @@ less true false h = refl
 less false true h = refl
 less false false h = refl
 
-ascending_agree : (w : ℕ) (a b : ℕ → Bool) → ((p : ℕ) → p < w → a p ≡ b p) → ascending w a ≡ ascending w b
+pub ascending_agree : (w : ℕ) (a b : ℕ → Bool) → ((p : ℕ) → p < w → a p ≡ b p) → ascending w a ≡ ascending w b
 ascending_agree zero a b h = refl
 ascending_agree (suc w) a b h =
     ap₂ {C = List ℕ} (λ (xs : List ℕ) (t : Bool). xs ++ cond t (w ∷ []) []) (ascending_agree w a b (λ p l. h p (omega arith))) (h w (omega arith))

@@ -1,17 +1,13 @@
 -- How many numbers a list with each number once leaves.
-use Rattle.std.proofs.Common.{◌≡◌, ℕ, zero, suc, ◌+◌, ◌-◌, ◌<◌, ◌≤◌, Bool, true, false, cond, not, ◌&&◌, ◌||◌, T, ltb, List, [], ◌∷◌, ◌++◌, length, sym, refl, ap, ◌∙◌, ap₂, ⊎_elim, arith, length-append}
+use Rattle.std.proofs.Common.{◌≡◌, ℕ, zero, suc, ◌+◌, ◌-◌, ◌<◌, ◌≤◌, Bool, true, false, cond, not, ◌&&◌, ◌||◌, T, ltb, List, [], ◌∷◌, length, sym, refl, ap, ◌∙◌, ap₂, ⊎_elim, arith, length-append}
 use Rattle.std.proofs.lemmas.Bool.{eq-eqb, ne_eqb, cases_eq, lt-ltb}
 use Rattle.model.specs.Families.{has}
 use Rattle.model.specs.Ledgers.{ascending}
 use Rattle.model.specs.Planners.{Once, all_below}
 use Rattle.model.proofs.Tests.{right}
+use Rattle.model.proofs.Meaning.{ascending_agree}
 use Rattle.store.specs.Meaning.{Meaning, Sound, left, domain, domains}
 use Rattle.store.proofs.Members.{is_false, all_below_at}
-
-pub ascending_agree : (w : ℕ) (a b : ℕ → Bool) → ((p : ℕ) → p < w → a p ≡ b p) → ascending w a ≡ ascending w b
-ascending_agree zero a b h = refl
-ascending_agree (suc w) a b h =
-    ap₂ {C = List ℕ} (λ (xs : List ℕ) (t : Bool). xs ++ cond t (w ∷ []) []) (ascending_agree w a b (λ p l. h p (omega arith))) (h w (omega arith))
 
 pub ascending_next : (w : ℕ) (t : ℕ → Bool) → length (ascending (suc w) t) ≡ length (ascending w t) + length (cond (t w) (w ∷ []) [])
 ascending_next w t = length-append (ascending w t) (cond (t w) (w ∷ []) [])

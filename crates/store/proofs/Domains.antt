@@ -5,21 +5,10 @@ use Rattle.std.specs.Option.{MatchOption}
 use Rattle.std.specs.Result.{result_unwrap_or}
 use Rattle.model.specs.declared.refusal.Refusal.{Refusal}
 use Rattle.model.specs.Families.{has}
+use Rattle.model.proofs.Tests.{both, left, right}
 use Rattle.store.specs.Meaning.{Meaning, domains}
 use Rattle.store.specs.Calls.{Contains, NextOpen}
 use Rattle.store.proofs.Members.{false_not, true_is}
-
-and_T : (a b : Bool) → T a → T b → T (a && b)
-and_T true b p q = q
-and_T false b p q = p
-
-fst_T : (a b : Bool) → T (a && b) → T a
-fst_T true b p = tt
-fst_T false b p = p
-
-snd_T : (a b : Bool) → T (a && b) → T b
-snd_T true b p = p
-snd_T false b p = absurd p
 
 not_T_false : (a : Bool) → T (not a) → a ≡ false
 not_T_false true p = absurd p
@@ -31,21 +20,21 @@ false_T_not false p = tt
 
 module _ (m : Meaning) (g p : ℕ) where
   pub open_gate : T (domains m g p) → g < m.gates
-  open_gate t = ltb→lt g m.gates (fst_T (ltb g m.gates) (ltb p m.width && not (has (m.gone g) p)) t)
+  open_gate t = ltb→lt g m.gates (left (ltb g m.gates) (ltb p m.width && not (has (m.gone g) p)) t)
 
   rest : T (domains m g p) → T (ltb p m.width && not (has (m.gone g) p))
-  rest t = snd_T (ltb g m.gates) (ltb p m.width && not (has (m.gone g) p)) t
+  rest t = right (ltb g m.gates) (ltb p m.width && not (has (m.gone g) p)) t
 
   pub open_width : T (domains m g p) → p < m.width
-  open_width t = ltb→lt p m.width (fst_T (ltb p m.width) (not (has (m.gone g) p)) (rest t))
+  open_width t = ltb→lt p m.width (left (ltb p m.width) (not (has (m.gone g) p)) (rest t))
 
   pub open_has : T (domains m g p) → has (m.gone g) p ≡ false
-  open_has t = not_T_false (has (m.gone g) p) (snd_T (ltb p m.width) (not (has (m.gone g) p)) (rest t))
+  open_has t = not_T_false (has (m.gone g) p) (right (ltb p m.width) (not (has (m.gone g) p)) (rest t))
 
   pub open_is : g < m.gates → p < m.width → has (m.gone g) p ≡ false → T (domains m g p)
   open_is a b e =
-      and_T (ltb g m.gates) (ltb p m.width && not (has (m.gone g) p)) (lt→ltb g m.gates a)
-      (and_T (ltb p m.width) (not (has (m.gone g) p)) (lt→ltb p m.width b) (false_T_not (has (m.gone g) p) e))
+      both (ltb g m.gates) (ltb p m.width && not (has (m.gone g) p)) (lt→ltb g m.gates a)
+      (both (ltb p m.width) (not (has (m.gone g) p)) (lt→ltb p m.width b) (false_T_not (has (m.gone g) p) e))
 
   -- what contains answers
   pub contains_open : (r : Result Bool Refusal) → Contains m g p r → (b : Bool) → r ≡ Ok b → b ≡ domains m g p
