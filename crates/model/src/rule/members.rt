@@ -7,7 +7,8 @@ use super::member::Member;
 use crate::bounds::MEMBERS;
 
 /// The first `count` of the list, one at least. No gate is a member twice.
-#[derive(Clone, Copy)]
+/// Two are equal if they agree in every place of the list, those past `count` too.
+#[derive(Clone, Copy, Debug, PartialEq, Eq, Hash)]
 pub struct Members {
     pub count: usize,
     pub list: [Member; MEMBERS],
