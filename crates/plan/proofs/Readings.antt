@@ -97,8 +97,8 @@ module _ (d : Draft) (ps : List Field) (h : Holds d ps) where
   open_same g q true true lg lq =
       let lg' = lg tt in
       let lq' = lq tt in
-      let few = d.plan.gated.1 in
-      let low = d.plan.wide.1 in
+      let few = d.plan.few_gates in
+      let low = d.plan.few_positions in
       h.starts g q (omega arith) (omega arith)
   open_same g q true false lg lq = refl
   open_same g q false b lg lq = refl

@@ -143,11 +143,11 @@ field_inside text at p e = by_prefix text at (prefix_at text at) refl p e
 load_sound : (p : Plan) → WellNamed (load_of p).plan → SoundLoad (load_of p)
 load_sound p named =
     record {
-      some_gates = p.gated.0;
-      few_gates = p.gated.1;
-      some_positions = p.wide.0;
-      few_positions = p.wide.1;
-      few_rules = let few = p.ruled in let k = length-map (take p.count p.rules) rule_of in let t = length-take p.count p.rules in omega arith;
+      some_gates = p.some_gates;
+      few_gates = p.few_gates;
+      some_positions = p.some_positions;
+      few_positions = p.few_positions;
+      few_rules = let few = p.few_rules in let k = length-map (take p.count p.rules) rule_of in let t = length-take p.count p.rules in omega arith;
       named = named;
       inside = λ g q t. (
         ltb→lt g p.gates (left (ltb g p.gates) _ t),

@@ -34,6 +34,10 @@ Took d ps p (Ok true) = (fault ps p ≡ None) × (is_end p.kind ≡ false) × Ho
 Took d ps p (Ok false) = (fault ps p ≡ None) × (is_end p.kind ≡ true) × Holds d ps
 Took d ps p (Err e) = (fault ps p ≡ Some e.refusal) × (e.place ≡ p.place)
 
+-- the same for whichever fields the draft held before
+abbrev pub Takes : Draft → Draft → Field → Result Bool Fault → Type 0
+Takes old new p r = (ps : List Field) → Holds old ps → Took new ps p r
+
 -- where a reading stands: the fields that the draft has, and that what follows decides what the text says
 pub record Underway (text : List ℕ) (at : ℕ) (d : Draft) : Type 0 where
   pub fields : List Field

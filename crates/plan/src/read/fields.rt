@@ -16,10 +16,7 @@ use text::reader::Reader;
 fn is_head(kind: PlanKind) -> bool
     ensures { result ≡ is_head kind }
 {
-    match kind {
-        PlanKind::Head => true,
-        _ => false,
-    }
+    kind == PlanKind::Head
 }
 
 /// Takes the first field, which has to be Head.
