@@ -1,5 +1,5 @@
 -- The reading of a text, field by field.
-use Rattle.std.proofs.Common.{◌≡◌, ℕ, zero, suc, ◌+◌, ◌-◌, ◌<◌, ◌≤◌, Bool, true, false, not, ◌&&◌, T, ltb, List, [], ◌∷◌, ◌++◌, length, get_or, take, drop, Some, None, Ok, Err, Option, Result, sym, refl, ap, ◌∙◌, subst, arith, ltb→lt}
+use Rattle.std.proofs.Common.{◌≡◌, ℕ, zero, suc, ◌+◌, ◌-◌, ◌<◌, ◌≤◌, Bool, true, false, not, ◌&&◌, T, cond, ltb, List, [], ◌∷◌, ◌++◌, length, get_or, take, drop, Some, None, Ok, Err, Option, Result, sym, refl, ap, ◌∙◌, subst, arith, ltb→lt}
 use mathlib.Core.Path.{fun_ext}
 use Rattle.std.proofs.lemmas.Bool.{cond-false, lt-leb}
 use Rattle.model.specs.Plans.{Load}
@@ -16,7 +16,7 @@ use Rattle.text.specs.Payloads.{head_of}
 use Rattle.plan.specs.declared.draft.Draft.{Draft}
 use Rattle.plan.specs.Views.{load_of}
 use Rattle.plan.specs.Plans.{Field, plan_field, is_head, is_end, size_in, opens, rules_in, load_in, absent, unfit_by, full_by, verdict, fault, Reading, decided, asked, read_from, plan_text}
-use Rattle.plan.specs.Drafts.{Holds, Took, Underway, Begun, Stepped}
+use Rattle.plan.specs.Drafts.{Holds, Took, Underway, Begun}
 use Rattle.plan.proofs.Verdicts.{differ}
 
 pub nothing_left : (text : List ℕ) (at : ℕ) → length text ≤ at → plan_field text at ≡ refused Truncated at
@@ -164,25 +164,28 @@ refused_begun text at e r is f = subst (λ (x : Result Draft Fault). Begun text 
 
 -- ---- a field more
 
-pub refused_stepped : (text : List ℕ) (at : ℕ) (d : Draft) (e : Fault) (r : Result Bool Fault) → r ≡ Err e → Err e ≡ plan_text text → Stepped text at d r
-refused_stepped text at d e r is f = subst (λ (x : Result Bool Fault). Stepped text at d x) (sym is) f
-
 module _ (text : List ℕ) (at : ℕ) (d : Draft) (u : Underway text at d) where
   pub refuses : (e : Fault) → plan_field text at ≡ Err e → Err e ≡ plan_text text
   refuses e is = sym (stops u.turns text at u.fields e u.enough is) ∙ u.same
 
-  pub takes : (p : Field) (next : Draft) (to : ℕ) (r : Result Bool Fault) → plan_field text at ≡ Ok p → to ≡ next_at (Ok p) at → Took next u.fields p r → Stepped text to next r
-  takes p next to (Ok true) is go (f, e, h) =
-      let g = goes_on u.turns text at u.fields p u.enough is f e in
-      record { fields = u.fields ++ (p ∷ []); turns = g.0; held = h; enough = omega (arith, g.1); same = ap (λ (a : ℕ). read_from g.0 text a (u.fields ++ (p ∷ []))) go ∙ (sym g.2 ∙ u.same) }
-  takes p next to (Ok false) is go (f, e, h) =
-      ap (λ (l : Load). Ok (record { load = l; read = to })) (held_load next u.fields h)
-      ∙ (ap (λ (a : ℕ). Ok (record { load = load_in u.fields; read = a })) go
-      ∙ (sym (ended u.turns text at u.fields p u.enough is f e) ∙ u.same))
-  takes p next to (Err e) is go (f, place) =
-      fault_at e e.refusal at refl (place ∙ (stands text at).ok p is) ∙ (sym (faulty u.turns text at u.fields p e.refusal u.enough is f) ∙ u.same)
+  module _ (p : Field) (is : plan_field text at ≡ Ok p) where
+    pub takes : (next : Draft) (to : ℕ) → to ≡ next_at (Ok p) at → is_end p.kind ≡ false → Took next u.fields p (Ok tt) → Underway text to next
+    takes next to go more (f, h) =
+        let g = goes_on u.turns text at u.fields p u.enough is f more in
+        record {
+          fields = u.fields ++ (p ∷ []);
+          turns = g.0;
+          held = subst (λ (b : Bool). Holds next (cond b u.fields (u.fields ++ (p ∷ [])))) more h;
+          enough = omega (arith, g.1);
+          same = ap (λ (a : ℕ). read_from g.0 text a (u.fields ++ (p ∷ []))) go ∙ (sym g.2 ∙ u.same);
+        }
 
--- behind End the plan is whole
-pub finishes : (text : List ℕ) (at : ℕ) (d : Draft) (more : Bool) (read : ℕ) → more ≡ false → Stepped text at d (Ok more) → read ≡ at → Ok (record { load = load_of d.plan; read = read }) ≡ plan_text text
-finishes text at d true read e s r = let z : ◌≡◌ {A = ℕ} 0 1 = cc in absurd (omega arith)
-finishes text at d false read e s r = ap (λ (a : ℕ). Ok (record { load = load_of d.plan; read = a })) r ∙ s
+    pub finishes : (next : Draft) (to : ℕ) → to ≡ next_at (Ok p) at → is_end p.kind ≡ true → Took next u.fields p (Ok tt) → Ok (record { load = load_of next.plan; read = to }) ≡ plan_text text
+    finishes next to go end (f, h) =
+        ap (λ (l : Load). Ok (record { load = l; read = to })) (held_load next u.fields (subst (λ (b : Bool). Holds next (cond b u.fields (u.fields ++ (p ∷ [])))) end h))
+        ∙ (ap (λ (a : ℕ). Ok (record { load = load_in u.fields; read = a })) go
+        ∙ (sym (ended u.turns text at u.fields p u.enough is f end) ∙ u.same))
+
+    pub fails : (next : Draft) (e : Fault) → Took next u.fields p (Err e) → Err e ≡ plan_text text
+    fails next e (f, place) =
+        fault_at e e.refusal at refl (place ∙ (stands text at).ok p is) ∙ (sym (faulty u.turns text at u.fields p e.refusal u.enough is f) ∙ u.same)

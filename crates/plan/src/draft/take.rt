@@ -76,7 +76,7 @@ impl Draft {
     }
 
     /// Takes the positions that a gate starts with.
-    fn take_positions(&mut self, field: &Field<PlanKind>) -> Result<bool, Fault>
+    fn take_positions(&mut self, field: &Field<PlanKind>) -> Result<(), Fault>
         requires { field.now.kind ≡ positionsKind }
         ensures { Takes self.old self.new (part field.now) result }
     {
@@ -85,11 +85,11 @@ impl Draft {
         let Listing { gate, row } = judge(field, again, given, false)?;
         self.plan.starts[gate] = row;
         self.listed[gate] = true;
-        Ok(true)
+        Ok(())
     }
 
     /// Takes one rule more.
-    fn take_rule(&mut self, kind: RuleKind, field: &Field<PlanKind>) -> Result<bool, Fault>
+    fn take_rule(&mut self, kind: RuleKind, field: &Field<PlanKind>) -> Result<(), Fault>
         requires { field.now.kind ≡ ruleKind kind }
         ensures { Takes self.old self.new (part field.now) result }
     {
@@ -98,26 +98,26 @@ impl Draft {
         let rule = judge(field, false, given, count >= RULES)?;
         self.plan.rules[count] = rule;
         self.plan.count = count + 1;
-        Ok(true)
+        Ok(())
     }
 
     /// A second Head is misplaced, whatever it says.
-    fn take_head(&self, field: &Field<PlanKind>) -> Result<bool, Fault>
+    fn take_head(&self, field: &Field<PlanKind>) -> Result<(), Fault>
         requires { field.now.kind ≡ headKind }
         ensures { Takes self.now self.now (part field.now) result }
     {
         Err(field.fault(Refusal::Misplaced))
     }
 
-    /// Takes one field more, and says whether more are to come; or tells its fault.
-    pub(crate) fn take(&mut self, field: &Field<PlanKind>) -> Result<bool, Fault>
+    /// Takes one field more, or tells its fault. End adds nothing.
+    pub(crate) fn take(&mut self, field: &Field<PlanKind>) -> Result<(), Fault>
         ensures { Takes self.old self.new (part field.now) result }
     {
         match field.kind {
             PlanKind::Head => self.take_head(field),
             PlanKind::Positions => self.take_positions(field),
             PlanKind::Rule(kind) => self.take_rule(kind, field),
-            PlanKind::End => Ok(false),
+            PlanKind::End => Ok(()),
         }
     }
 }

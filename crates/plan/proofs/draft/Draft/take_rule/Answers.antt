@@ -3,8 +3,8 @@ use Rattle.std.specs.Option.{option_map}
 use Rattle.std.proofs.lemmas.Result.{err_from_is_err_and}
 use Rattle.model.specs.Bounds.{most_rules}
 use Rattle.model.specs.Rules.{rule_of}
-use Rattle.plan.specs.Plans.{is_end}
-use Rattle.plan.proofs.Verdicts.{accepted, refused_took, no_fault}
+use Rattle.text.specs.declared.kind.PlanKind.TheVariants.{Rule}
+use Rattle.plan.proofs.Verdicts.{accepted, refused_took, no_fault, held_with}
 use Rattle.plan.proofs.Holding.{rule_fault, rule_held}
 use Rattle.plan.proofs.draft.Draft.take_rule.Goals as goal
 
@@ -23,7 +23,6 @@ returns c = λ ps h.
     let a = accepted c.args.field.now.place false c.read_rule-given.result full c.in_ok-rule.rule c.in_ok-rule.ensures in (
       no_fault ps _ false c.read_rule-given.result full c.in_ok-rule.rule c.in_ok-rule.ensures
           (rule_fault c.args.self.now ps h _ c.args.kind c.requires c.args.self.now.plan.few_rules c.read_rule-given.result full c.read_rule-given.ensures refl),
-      ap is_end c.requires,
-      rule_held c.args.self.now ps h _ c.args.kind c.requires c.args.self.now.plan.few_rules c.in_ok-rule.rule _
-          (ap (option_map rule_of) (sym a.1) ∙ c.read_rule-given.ensures) (search rules) refl refl refl refl refl refl,
+      held_with _ ps _ (Rule c.args.kind) c.requires (rule_held c.args.self.now ps h _ c.args.kind c.requires c.args.self.now.plan.few_rules c.in_ok-rule.rule _
+          (ap (option_map rule_of) (sym a.1) ∙ c.read_rule-given.ensures) (search rules) refl refl refl refl refl refl),
     )
