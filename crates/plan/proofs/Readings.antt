@@ -1,5 +1,6 @@
 -- The reading of a text, field by field.
 use Rattle.std.proofs.Common.{◌≡◌, ℕ, zero, suc, ◌+◌, ◌-◌, ◌<◌, ◌≤◌, Bool, true, false, not, ◌&&◌, T, cond, ltb, List, [], ◌∷◌, ◌++◌, length, get_or, take, drop, Some, None, Ok, Err, Option, Result, sym, refl, ap, ◌∙◌, subst, arith, ltb→lt}
+use Rattle.std.specs.Option.{is_none}
 use mathlib.Core.Path.{fun_ext}
 use Rattle.std.proofs.lemmas.Bool.{cond-false, lt-leb}
 use Rattle.model.specs.Plans.{Load}
@@ -15,7 +16,7 @@ use Rattle.text.specs.Lengths.{with_payload}
 use Rattle.text.specs.Payloads.{head_of}
 use Rattle.plan.specs.declared.draft.Draft.{Draft}
 use Rattle.plan.specs.Views.{load_of}
-use Rattle.plan.specs.Plans.{Field, plan_field, is_head, is_end, size_in, opens, rules_in, load_in, absent, unfit_by, full_by, verdict, fault, Reading, decided, asked, read_from, plan_text}
+use Rattle.plan.specs.Plans.{Field, plan_field, is_head, is_end, size_in, opens, rules_in, load_in, unfit_by, full_by, verdict, fault, Reading, decided, asked, read_from, plan_text}
 use Rattle.plan.specs.Drafts.{Holds, Took, Underway, Begun}
 use Rattle.plan.proofs.Verdicts.{differ}
 
@@ -118,19 +119,19 @@ module _ (d : Draft) (ps : List Field) (h : Holds d ps) where
 
 -- ---- the first field
 
-first_fault : (p : Field) → fault [] p ≡ verdict (not (is_head p.kind)) (absent (head_of p.bytes)) false
+first_fault : (p : Field) → fault [] p ≡ verdict (not (is_head p.kind)) (is_none (head_of p.bytes)) false
 unfolding fault
 first_fault p = go p.kind
   where
-    go : (k : PlanKind) → verdict (not (is_head k)) (unfit_by (size_in []) k p.bytes) (full_by k (length (rules_in []))) ≡ verdict (not (is_head k)) (absent (head_of p.bytes)) false
+    go : (k : PlanKind) → verdict (not (is_head k)) (unfit_by (size_in []) k p.bytes) (full_by k (length (rules_in []))) ≡ verdict (not (is_head k)) (is_none (head_of p.bytes)) false
     go Head = refl
     go Positions = refl
     go (Rule k) = refl
     go End = refl
 
-pub first_verdict : (p : Field) (b : Bool) (o : Option Size) → b ≡ is_head p.kind → o ≡ head_of p.bytes → fault [] p ≡ verdict (not b) (absent o) false
+pub first_verdict : (p : Field) (b : Bool) (o : Option Size) → b ≡ is_head p.kind → o ≡ head_of p.bytes → fault [] p ≡ verdict (not b) (is_none o) false
 first_verdict p b o e f =
-    first_fault p ∙ (ap (λ (t : Bool). verdict (not t) (absent (head_of p.bytes)) false) (sym e) ∙ ap (λ (x : Option Size). verdict (not b) (absent x) false) (sym f))
+    first_fault p ∙ (ap (λ (t : Bool). verdict (not t) (is_none (head_of p.bytes)) false) (sym e) ∙ ap (λ (x : Option Size). verdict (not b) (is_none x) false) (sym f))
 
 head_goes_on : (k : PlanKind) → is_head k ≡ true → is_end k ≡ false
 head_goes_on Head e = refl

@@ -1,8 +1,9 @@
 -- The fault of a field, by the row of the table that applies first.
 use Rattle.std.proofs.Common.{◌≡◌, ℕ, ◌<◌, Bool, true, false, cond, List, [], ◌∷◌, ◌++◌, length, Some, None, Ok, Err, Option, Result, sym, refl, ap, ◌∙◌, subst, arith}
+use Rattle.std.specs.Option.{is_none}
 use Rattle.text.specs.declared.fault.Fault.{Fault}
 use Rattle.text.specs.declared.kind.PlanKind.{PlanKind}
-use Rattle.plan.specs.Plans.{Field, size_in, rules_in, absent, misplaced, misplaced_by, unfit_by, full_by, verdict, fault, is_end}
+use Rattle.plan.specs.Plans.{Field, size_in, rules_in, misplaced, misplaced_by, unfit_by, full_by, verdict, fault, is_end}
 use Rattle.plan.specs.declared.draft.Draft.{Draft}
 use Rattle.plan.specs.Drafts.{judged, Holds, Took, with_field}
 
@@ -20,7 +21,7 @@ accepted place false (Some z) true y e = absurd (differ e)
 accepted place false (Some z) false y e = (refl, cc, refl)
 
 -- a refused one has the verdict's fault, at its place
-pub refused_by : {X : Type 0} (place : ℕ) (m : Bool) (x : Option X) (f : Bool) (e : Fault) → Err e ≡ judged place m x f → (verdict m (absent x) f ≡ Some e.refusal) × (e.place ≡ place)
+pub refused_by : {X : Type 0} (place : ℕ) (m : Bool) (x : Option X) (f : Bool) (e : Fault) → Err e ≡ judged place m x f → (verdict m (is_none x) f ≡ Some e.refusal) × (e.place ≡ place)
 refused_by place true x f e h = (cc, cc)
 refused_by place false None f e h = (cc, cc)
 refused_by place false (Some z) true e h = (cc, cc)
@@ -44,13 +45,13 @@ held_with d ps p kind e h = subst (λ (k : PlanKind). Holds d (cond (is_end k) p
 
 -- a refused field leaves the draft as it was, with its fault
 pub refused_took : (d : Draft) (ps : List Field) (p : Field) {X : Type 0} (m : Bool) (x : Option X) (f : Bool) (e : Fault) (r : Result Unit Fault)
-    → Err e ≡ judged p.place m x f → fault ps p ≡ verdict m (absent x) f → r ≡ Err e → Took d ps p r
+    → Err e ≡ judged p.place m x f → fault ps p ≡ verdict m (is_none x) f → r ≡ Err e → Took d ps p r
 refused_took d ps p m x f e r j v is =
     let w = refused_by p.place m x f e j in
     subst (λ (s : Result Unit Fault). Took d ps p s) (sym is) (v ∙ w.0, w.1)
 
 -- an accepted one has none
-pub no_fault : (ps : List Field) (p : Field) {X : Type 0} (m : Bool) (x : Option X) (f : Bool) (y : X) → Ok y ≡ judged p.place m x f → fault ps p ≡ verdict m (absent x) f → fault ps p ≡ None
+pub no_fault : (ps : List Field) (p : Field) {X : Type 0} (m : Bool) (x : Option X) (f : Bool) (y : X) → Ok y ≡ judged p.place m x f → fault ps p ≡ verdict m (is_none x) f → fault ps p ≡ None
 no_fault ps p m x f y j v =
     let a = accepted p.place m x f y j in
-    v ∙ (ap (λ (t : Bool). verdict t (absent x) f) a.0 ∙ (ap (λ (o : Option _). verdict false (absent o) f) a.1 ∙ ap (verdict false false) a.2))
+    v ∙ (ap (λ (t : Bool). verdict t (is_none x) f) a.0 ∙ (ap (λ (o : Option _). verdict false (is_none o) f) a.1 ∙ ap (verdict false false) a.2))

@@ -1,5 +1,5 @@
 // From a text's bytes to its plan.
-ghost use Rattle.std.specs.Prelude.{◌≡◌, ℕ, List};
+ghost use Rattle.std.specs.Prelude.{◌≡◌};
 ghost use Rattle.text.specs.Readers.{text_of, place_of};
 ghost use Rattle.plan.specs.Plans.{is_head, plan_text};
 ghost use Rattle.plan.specs.Meanings.{MeansOnly, Sound};
@@ -21,7 +21,7 @@ fn is_head(kind: PlanKind) -> bool
 
 /// Takes the first field, which has to be Head.
 fn begin(reader: &mut Reader) -> Result<Draft, Fault>
-    ensures begun { (text : List ℕ) → text_of reader.old ≡ text → place_of reader.old ≡ 0 → Begun text (place_of reader.new) result }
+    ensures begun { place_of reader.old ≡ 0 → Begun (text_of reader.old) (place_of reader.new) result }
     ensures text { text_of reader.new ≡ text_of reader.old }
 {
     let first = reader.next()?;
