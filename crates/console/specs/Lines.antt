@@ -1,8 +1,9 @@
 -- The lines that the program prints.
-use Rattle.std.specs.Prelude.{ℕ, cond, List, [], ◌++◌, length, Ok, Err, codes, decimal, Result, ◌==◌, nat_lt}
+use Rattle.std.specs.Prelude.{◌≡◌, ℕ, cond, string_bytes, String, List, [], ◌++◌, length, Ok, Err, codes, decimal, Result, ◌==◌, nat_lt}
+use Rattle.std.specs.declared.alloc.Global.{Global}
 use Rattle.model.specs.Plans.{Plan}
-use Rattle.model.specs.Refusals.{number_of}
 use Rattle.text.specs.declared.fault.Fault.{Fault}
+use Rattle.text.specs.Faults.{fault_text}
 use Rattle.text.specs.Fields.{Part, field_at}
 use Rattle.plan.specs.Plans.{Reading, plan_text}
 use Rattle.console.specs.declared.call.CallKind.{CallKind}
@@ -12,14 +13,18 @@ use Rattle.console.specs.Calls.{call_kind}
 abbrev pub most_input : ℕ
 most_input = 32768
 
+-- a text has these bytes more at its end
+abbrev pub Appends : String Global → String Global → List ℕ → Type 0
+Appends old new bytes = string_bytes new ≡ string_bytes old ++ bytes
+
 abbrev pub plan_line : Plan → List ℕ
 plan_line plan = codes "plan " ++ (decimal plan.gates ++ (codes " " ++ (decimal plan.width ++ codes "\n")))
 
 abbrev pub refused_line : Fault → List ℕ
-refused_line e = codes "plan no " ++ (decimal (number_of e.refusal) ++ (codes " at " ++ (decimal e.place ++ codes "\n")))
+refused_line e = codes "plan no " ++ (fault_text e ++ codes "\n")
 
 abbrev pub stop_line : Fault → List ℕ
-stop_line e = codes "stop " ++ (decimal (number_of e.refusal) ++ (codes " at " ++ (decimal e.place ++ codes "\n")))
+stop_line e = codes "stop " ++ (fault_text e ++ codes "\n")
 
 -- a call field: no call is known yet, so each stops the program
 abbrev pub call_lines : Result (Part CallKind) Fault → List ℕ

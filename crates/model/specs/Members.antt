@@ -1,5 +1,6 @@
 -- The members of a Total: gate and weight.
-use Rattle.std.specs.Prelude.{ℕ, Bool, true, false, not, ◌&&◌, ◌||◌, List, [], ◌∷◌, ◌==◌}
+use Rattle.std.specs.Prelude.{ℕ, Bool, true, not, ◌&&◌, List, [], ◌∷◌, ◌==◌}
+use Rattle.std.specs.List.{list_any}
 use Rattle.model.specs.declared.rule.member.Member.{Member}
 
 abbrev pub member_of : Member → ℕ × ℕ
@@ -7,8 +8,7 @@ member_of m = (m.gate, m.weight)
 
 -- is the gate a member?
 abbrev pub has_gate : List (ℕ × ℕ) → ℕ → Bool
-has_gate [] g = false
-has_gate (m ∷ ms) g = m.0 == g || has_gate ms g
+has_gate ms g = list_any (λ m. m.0 == g) ms
 
 -- no gate is a member twice
 abbrev pub gates_differ : List (ℕ × ℕ) → Bool

@@ -1,8 +1,11 @@
 // Why something is refused, in the order of the numbers that are told.
-ghost use Rattle.std.specs.Prelude.{◌≡◌};
+ghost use Rattle.std.specs.Prelude.{◌≡◌, Some, decimal};
 ghost use Rattle.model.specs.Refusals.{number_of};
 
-#[derive(Clone, Copy)]
+use std::error::Error;
+use std::fmt;
+
+#[derive(Clone, Copy, Debug, PartialEq, Eq, Hash)]
 pub enum Refusal {
     /// Fewer than three bytes are left, or less payload than the length says.
     Truncated = 1,
@@ -42,3 +45,14 @@ impl Refusal {
         self as u8
     }
 }
+
+/// A refusal is told by its number.
+impl fmt::Display for Refusal {
+    ghost output = { λ x. Some (decimal (number_of x)) };
+
+    fn fmt<W: fmt::Write>(&self, f: &mut fmt::Formatter<W>) -> fmt::Result {
+        write!(f, "{}", self.number())
+    }
+}
+
+impl Error for Refusal {}

@@ -1,8 +1,8 @@
 -- What one field more behind others changes in what they say.
 use Rattle.std.proofs.Common.{◌≡◌, ℕ, ◌<◌, Bool, true, false, not, ◌&&◌, ◌||◌, List, [], ◌∷◌, ◌++◌, length, drop, sym, refl, ap, ◌∙◌, arith}
-use mathlib.Core.Bool.{or_assoc}
 use Rattle.std.specs.List.{flat_map}
 use Rattle.std.proofs.lemmas.List.{flat_map_more}
+use Rattle.std.proofs.lemmas.List.Folds.{list_any-append}
 use Rattle.std.proofs.lemmas.Bool.{both_ways}
 use Rattle.text.specs.declared.head.Head.{Head as Size}
 use Rattle.text.specs.Ranges.{covered}
@@ -21,14 +21,12 @@ size_behind [] p h = absurd (omega arith)
 size_behind (q ∷ ps) p h = refl
 
 pub listed_behind : (ps : List Field) (p : Field) (g : ℕ) → is_listed (ps ++ (p ∷ [])) g ≡ (is_listed ps g || lists g p)
-listed_behind [] p g = or_false (lists g p)
-listed_behind (q ∷ ps) p g = ap (λ (b : Bool). lists g q || b) (listed_behind ps p g) ∙ sym (or_assoc (lists g q) (is_listed ps g) (lists g p))
+listed_behind ps p g = list_any-append (lists g) ps (p ∷ []) ∙ ap (λ (b : Bool). is_listed ps g || b) (or_false (lists g p))
 
 chosen_behind : (ps : List Field) (p : Field) (g q : ℕ) → chosen (ps ++ (p ∷ [])) g q ≡ (chosen ps g q || (lists g p && covered (drop 1 p.bytes) q))
-chosen_behind [] p g q = or_false (lists g p && covered (drop 1 p.bytes) q)
-chosen_behind (r ∷ ps) p g q =
-    ap (λ (b : Bool). (lists g r && covered (drop 1 r.bytes) q) || b) (chosen_behind ps p g q)
-    ∙ sym (or_assoc (lists g r && covered (drop 1 r.bytes) q) (chosen ps g q) (lists g p && covered (drop 1 p.bytes) q))
+chosen_behind ps p g q =
+    list_any-append (λ r. lists g r && covered (drop 1 r.bytes) q) ps (p ∷ [])
+    ∙ ap (λ (b : Bool). chosen ps g q || b) (or_false (lists g p && covered (drop 1 p.bytes) q))
 
 neither : (l k c d : Bool) → (l || d) ≡ false → (d ≡ false → c ≡ false) → ((l && k) || c) ≡ false
 neither true k c d e f = absurd (both_ways true e refl)

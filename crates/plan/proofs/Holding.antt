@@ -2,7 +2,7 @@
 use Rattle.std.proofs.Common.{◌≡◌, ℕ, ◌+◌, ◌<◌, ◌≤◌, Bool, true, false, cond, not, ◌||◌, T, eqb, ltb, leb, List, [], ◌∷◌, ◌++◌, map, length, get_or, take, drop, set, replicate, Some, None, Option, sym, refl, ap, ◌∙◌, subst, ⊎_elim, append-nil, arith, ltb→lt, length-take-le, get_or-set_other, get_or-set_same}
 use lib.ListN.{length-map}
 use Rattle.std.specs.List.{range_with_len}
-use Rattle.std.specs.Option.{option_map}
+use Rattle.std.specs.Option.{is_none, option_map, option_to_list}
 use Rattle.std.proofs.lemmas.List.FromFn.{get_or-map-range_with_len}
 use Rattle.std.proofs.lemmas.List.{take_more_set, map_push, get_or-replicate, length-set, length-replicate}
 use Rattle.std.proofs.lemmas.Bool.{cases_eq, eq-eqb, ne_eqb}
@@ -20,7 +20,7 @@ use Rattle.text.specs.Payloads.{head_of, rule_in}
 use Rattle.text.specs.Ranges.{covered, sound, row_of, listing_of}
 use Rattle.plan.specs.declared.draft.Draft.{Draft}
 use Rattle.plan.specs.Views.{rules_of}
-use Rattle.plan.specs.Plans.{Field, size_by, size_in, lists, lists_by, begins_with, is_listed, chosen, opens, if_any, rule_by, rules_by, rules_in, repeated, misplaced_by, absent, unfit_by, full_by, verdict, fault}
+use Rattle.plan.specs.Plans.{Field, size_by, size_in, lists, lists_by, begins_with, is_listed, chosen, opens, rule_by, rules_by, rules_in, repeated, misplaced_by, unfit_by, full_by, verdict, fault}
 use Rattle.plan.specs.Drafts.{Holds}
 use Rattle.plan.proofs.Verdicts.{none_some, fault_is}
 use Rattle.plan.proofs.Behind.{or_false, longer, size_behind, listed_behind, opens_same, opens_new, rules_behind}
@@ -96,12 +96,12 @@ module _ (d : Draft) (ps : List Field) (h : Holds d ps) (p : Field) where
 
 module _ (d : Draft) (ps : List Field) (h : Holds d ps) (p : Field) (e : p.kind ≡ Positions) where
   pub listing_fault : (again : Bool) (given : Option Listing) → again ≡ repeated ps p.bytes → given ≡ listing_of p.bytes d.plan.gates d.plan.width
-      → fault ps p ≡ verdict again (absent given) false
+      → fault ps p ≡ verdict again (is_none given) false
   listing_fault again given a b =
-      fault_is ps p again (absent given) false h.some
+      fault_is ps p again (is_none given) false h.some
       (ap (λ (k : PlanKind). misplaced_by ps k p.bytes) e ∙ sym a)
       (ap (λ (k : PlanKind). unfit_by (size_in ps) k p.bytes) e
-      ∙ ap absent (sym (b ∙ (ap (λ (n : ℕ). listing_of p.bytes n d.plan.width) h.gates ∙ ap (listing_of p.bytes (size_in ps).gates) h.width))))
+      ∙ ap is_none (sym (b ∙ (ap (λ (n : ℕ). listing_of p.bytes n d.plan.width) h.gates ∙ ap (listing_of p.bytes (size_in ps).gates) h.width))))
       (ap (λ (k : PlanKind). full_by k (length (rules_in ps))) e)
 
   module _ (l : Listing) (is : Listed p.bytes d.plan.gates l) (few : d.plan.gates ≤ most_gates) (fresh : repeated ps p.bytes ≡ false) (next : Draft)
@@ -176,16 +176,16 @@ module _ (d : Draft) (ps : List Field) (h : Holds d ps) (p : Field) (kind : Rule
   how_many =
       ap length (sym h.rules) ∙ (length-map (take d.plan.count d.plan.rules) rule_of ∙ length-take-le d.plan.count d.plan.rules (let r = h.room in omega arith))
 
-  absent_mapped : (given : Option Code) → absent (option_map rule_of given) ≡ absent given
+  absent_mapped : (given : Option Code) → is_none (option_map rule_of given) ≡ is_none given
   absent_mapped None = refl
   absent_mapped (Some r) = refl
 
   pub rule_fault : (given : Option Code) (full : Bool) → option_map rule_of given ≡ rule_in kind p.bytes d.plan.gates → full ≡ leb most_rules d.plan.count
-      → fault ps p ≡ verdict false (absent given) full
+      → fault ps p ≡ verdict false (is_none given) full
   rule_fault given full a b =
-      fault_is ps p false (absent given) full h.some
+      fault_is ps p false (is_none given) full h.some
       (ap (λ (k : PlanKind). misplaced_by ps k p.bytes) e)
-      (ap (λ (k : PlanKind). unfit_by (size_in ps) k p.bytes) e ∙ (ap absent (sym (a ∙ ap (rule_in kind p.bytes) h.gates)) ∙ absent_mapped given))
+      (ap (λ (k : PlanKind). unfit_by (size_in ps) k p.bytes) e ∙ (ap is_none (sym (a ∙ ap (rule_in kind p.bytes) h.gates)) ∙ absent_mapped given))
       (ap (λ (k : PlanKind). full_by k (length (rules_in ps))) e ∙ (ap (leb most_rules) how_many ∙ sym b))
 
   pub rule_held : (rule : Code) (next : Draft) → Some (rule_of rule) ≡ rule_in kind p.bytes d.plan.gates → d.plan.count < most_rules → next.plan.gates ≡ d.plan.gates → next.plan.width ≡ d.plan.width
@@ -198,7 +198,7 @@ module _ (d : Draft) (ps : List Field) (h : Holds d ps) (p : Field) (kind : Rule
       ∙ (ap (map rule_of) (take_more_set d.plan.rules d.plan.count rule (let r = h.room in omega arith))
       ∙ (map_push rule_of (take d.plan.count d.plan.rules) rule
       ∙ (ap (λ (xs : List Law). xs ++ (rule_of rule ∷ [])) h.rules
-      ∙ (ap (λ (o : Option Law). rules_in ps ++ if_any o) (is ∙ ap (rule_in kind p.bytes) h.gates)
+      ∙ (ap (λ (o : Option Law). rules_in ps ++ option_to_list o) (is ∙ ap (rule_in kind p.bytes) h.gates)
       ∙ sym (ap (λ (k : PlanKind). rules_in ps ++ rules_by k p.bytes (size_in ps).gates) e)))))))
 
 -- ---- the first field

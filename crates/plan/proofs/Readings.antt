@@ -1,5 +1,6 @@
 -- The reading of a text, field by field.
-use Rattle.std.proofs.Common.{◌≡◌, ℕ, zero, suc, ◌+◌, ◌-◌, ◌<◌, ◌≤◌, Bool, true, false, not, ◌&&◌, T, ltb, List, [], ◌∷◌, ◌++◌, length, get_or, take, drop, Some, None, Ok, Err, Option, Result, sym, refl, ap, ◌∙◌, subst, arith, ltb→lt}
+use Rattle.std.proofs.Common.{◌≡◌, ℕ, zero, suc, ◌+◌, ◌-◌, ◌<◌, ◌≤◌, Bool, true, false, not, ◌&&◌, T, cond, ltb, List, [], ◌∷◌, ◌++◌, length, get_or, take, drop, Some, None, Ok, Err, Option, Result, sym, refl, ap, ◌∙◌, subst, arith, ltb→lt}
+use Rattle.std.specs.Option.{is_none}
 use mathlib.Core.Path.{fun_ext}
 use Rattle.std.proofs.lemmas.Bool.{cond-false, lt-leb}
 use Rattle.model.specs.Plans.{Load}
@@ -15,8 +16,8 @@ use Rattle.text.specs.Lengths.{with_payload}
 use Rattle.text.specs.Payloads.{head_of}
 use Rattle.plan.specs.declared.draft.Draft.{Draft}
 use Rattle.plan.specs.Views.{load_of}
-use Rattle.plan.specs.Plans.{Field, plan_field, is_head, is_end, size_in, opens, rules_in, load_in, absent, unfit_by, full_by, verdict, fault, Reading, decided, asked, read_from, plan_text}
-use Rattle.plan.specs.Drafts.{Holds, Took, Underway, Begun, Stepped}
+use Rattle.plan.specs.Plans.{Field, plan_field, is_head, is_end, size_in, opens, rules_in, load_in, unfit_by, full_by, verdict, fault, Reading, decided, asked, read_from, plan_text}
+use Rattle.plan.specs.Drafts.{Holds, Took, Underway, Begun}
 use Rattle.plan.proofs.Verdicts.{differ}
 
 pub nothing_left : (text : List ℕ) (at : ℕ) → length text ≤ at → plan_field text at ≡ refused Truncated at
@@ -97,8 +98,8 @@ module _ (d : Draft) (ps : List Field) (h : Holds d ps) where
   open_same g q true true lg lq =
       let lg' = lg tt in
       let lq' = lq tt in
-      let few = d.plan.gated.1 in
-      let low = d.plan.wide.1 in
+      let few = d.plan.few_gates in
+      let low = d.plan.few_positions in
       h.starts g q (omega arith) (omega arith)
   open_same g q true false lg lq = refl
   open_same g q false b lg lq = refl
@@ -118,19 +119,19 @@ module _ (d : Draft) (ps : List Field) (h : Holds d ps) where
 
 -- ---- the first field
 
-first_fault : (p : Field) → fault [] p ≡ verdict (not (is_head p.kind)) (absent (head_of p.bytes)) false
+first_fault : (p : Field) → fault [] p ≡ verdict (not (is_head p.kind)) (is_none (head_of p.bytes)) false
 unfolding fault
 first_fault p = go p.kind
   where
-    go : (k : PlanKind) → verdict (not (is_head k)) (unfit_by (size_in []) k p.bytes) (full_by k (length (rules_in []))) ≡ verdict (not (is_head k)) (absent (head_of p.bytes)) false
+    go : (k : PlanKind) → verdict (not (is_head k)) (unfit_by (size_in []) k p.bytes) (full_by k (length (rules_in []))) ≡ verdict (not (is_head k)) (is_none (head_of p.bytes)) false
     go Head = refl
     go Positions = refl
     go (Rule k) = refl
     go End = refl
 
-pub first_verdict : (p : Field) (b : Bool) (o : Option Size) → b ≡ is_head p.kind → o ≡ head_of p.bytes → fault [] p ≡ verdict (not b) (absent o) false
+pub first_verdict : (p : Field) (b : Bool) (o : Option Size) → b ≡ is_head p.kind → o ≡ head_of p.bytes → fault [] p ≡ verdict (not b) (is_none o) false
 first_verdict p b o e f =
-    first_fault p ∙ (ap (λ (t : Bool). verdict (not t) (absent (head_of p.bytes)) false) (sym e) ∙ ap (λ (x : Option Size). verdict (not b) (absent x) false) (sym f))
+    first_fault p ∙ (ap (λ (t : Bool). verdict (not t) (is_none (head_of p.bytes)) false) (sym e) ∙ ap (λ (x : Option Size). verdict (not b) (is_none x) false) (sym f))
 
 head_goes_on : (k : PlanKind) → is_head k ≡ true → is_end k ≡ false
 head_goes_on Head e = refl
@@ -164,25 +165,28 @@ refused_begun text at e r is f = subst (λ (x : Result Draft Fault). Begun text 
 
 -- ---- a field more
 
-pub refused_stepped : (text : List ℕ) (at : ℕ) (d : Draft) (e : Fault) (r : Result Bool Fault) → r ≡ Err e → Err e ≡ plan_text text → Stepped text at d r
-refused_stepped text at d e r is f = subst (λ (x : Result Bool Fault). Stepped text at d x) (sym is) f
-
 module _ (text : List ℕ) (at : ℕ) (d : Draft) (u : Underway text at d) where
   pub refuses : (e : Fault) → plan_field text at ≡ Err e → Err e ≡ plan_text text
   refuses e is = sym (stops u.turns text at u.fields e u.enough is) ∙ u.same
 
-  pub takes : (p : Field) (next : Draft) (to : ℕ) (r : Result Bool Fault) → plan_field text at ≡ Ok p → to ≡ next_at (Ok p) at → Took next u.fields p r → Stepped text to next r
-  takes p next to (Ok true) is go (f, e, h) =
-      let g = goes_on u.turns text at u.fields p u.enough is f e in
-      record { fields = u.fields ++ (p ∷ []); turns = g.0; held = h; enough = omega (arith, g.1); same = ap (λ (a : ℕ). read_from g.0 text a (u.fields ++ (p ∷ []))) go ∙ (sym g.2 ∙ u.same) }
-  takes p next to (Ok false) is go (f, e, h) =
-      ap (λ (l : Load). Ok (record { load = l; read = to })) (held_load next u.fields h)
-      ∙ (ap (λ (a : ℕ). Ok (record { load = load_in u.fields; read = a })) go
-      ∙ (sym (ended u.turns text at u.fields p u.enough is f e) ∙ u.same))
-  takes p next to (Err e) is go (f, place) =
-      fault_at e e.refusal at refl (place ∙ (stands text at).ok p is) ∙ (sym (faulty u.turns text at u.fields p e.refusal u.enough is f) ∙ u.same)
+  module _ (p : Field) (is : plan_field text at ≡ Ok p) where
+    pub takes : (next : Draft) (to : ℕ) → to ≡ next_at (Ok p) at → is_end p.kind ≡ false → Took next u.fields p (Ok tt) → Underway text to next
+    takes next to go more (f, h) =
+        let g = goes_on u.turns text at u.fields p u.enough is f more in
+        record {
+          fields = u.fields ++ (p ∷ []);
+          turns = g.0;
+          held = subst (λ (b : Bool). Holds next (cond b u.fields (u.fields ++ (p ∷ [])))) more h;
+          enough = omega (arith, g.1);
+          same = ap (λ (a : ℕ). read_from g.0 text a (u.fields ++ (p ∷ []))) go ∙ (sym g.2 ∙ u.same);
+        }
 
--- behind End the plan is whole
-pub finishes : (text : List ℕ) (at : ℕ) (d : Draft) (more : Bool) (read : ℕ) → more ≡ false → Stepped text at d (Ok more) → read ≡ at → Ok (record { load = load_of d.plan; read = read }) ≡ plan_text text
-finishes text at d true read e s r = let z : ◌≡◌ {A = ℕ} 0 1 = cc in absurd (omega arith)
-finishes text at d false read e s r = ap (λ (a : ℕ). Ok (record { load = load_of d.plan; read = a })) r ∙ s
+    pub finishes : (next : Draft) (to : ℕ) → to ≡ next_at (Ok p) at → is_end p.kind ≡ true → Took next u.fields p (Ok tt) → Ok (record { load = load_of next.plan; read = to }) ≡ plan_text text
+    finishes next to go end (f, h) =
+        ap (λ (l : Load). Ok (record { load = l; read = to })) (held_load next u.fields (subst (λ (b : Bool). Holds next (cond b u.fields (u.fields ++ (p ∷ [])))) end h))
+        ∙ (ap (λ (a : ℕ). Ok (record { load = load_in u.fields; read = a })) go
+        ∙ (sym (ended u.turns text at u.fields p u.enough is f end) ∙ u.same))
+
+    pub fails : (next : Draft) (e : Fault) → Took next u.fields p (Err e) → Err e ≡ plan_text text
+    fails next e (f, place) =
+        fault_at e e.refusal at refl (place ∙ (stands text at).ok p is) ∙ (sym (faulty u.turns text at u.fields p e.refusal u.enough is f) ∙ u.same)

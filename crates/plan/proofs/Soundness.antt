@@ -3,7 +3,7 @@ use Rattle.std.proofs.Common.{◌≡◌, ℕ, ◌+◌, ◌-◌, ◌<◌, ◌≤�
 use mathlib.Core.List.Memᴰ
 use lib.ListN.{length-map}
 use Rattle.std.specs.List.{flat_map}
-use Rattle.std.specs.Option.{option_map}
+use Rattle.std.specs.Option.{option_map, option_to_list}
 use Rattle.model.specs.Bounds.{most_members}
 use Rattle.model.specs.Families.{◌∈◌}
 use Rattle.model.specs.Members.{gates_differ}
@@ -24,7 +24,7 @@ use Rattle.text.specs.Payloads.{two_gates, link_in, members_in, gates_below, mem
 use Rattle.plan.specs.declared.Plan.{Plan}
 use Rattle.plan.specs.declared.read.Loaded.{Loaded}
 use Rattle.plan.specs.Views.{load_of}
-use Rattle.plan.specs.Plans.{Field, plan_field, size_in, if_any, rules_by, rule_by, load_in, plan_text}
+use Rattle.plan.specs.Plans.{Field, plan_field, size_in, rules_by, rule_by, load_in, plan_text}
 use Rattle.plan.specs.Drafts.{seen_plan}
 use Rattle.plan.specs.Meanings.{Means, Sound}
 use Rattle.model.proofs.Tests.{left, right}
@@ -94,15 +94,15 @@ one_of r [] ys i = inr i
 one_of r (x ∷ xs) ys (Memᴰ.head e) = inl (Memᴰ.head e)
 one_of r (x ∷ xs) ys (Memᴰ.tail i) = ⊎_elim {C = (r ∈ (x ∷ xs)) ⊎ (r ∈ ys)} (λ (j : r ∈ xs). inl (Memᴰ.tail j)) (λ (j : r ∈ ys). inr j) (one_of r xs ys i)
 
-if_any_named : (n : ℕ) (o : Option Law) → ((r : Law) → o ≡ Some r → NamesBelow n r) → (r : Law) → r ∈ if_any o → NamesBelow n r
-if_any_named n None f r i = absurd (Memᴰ.not-nil i)
-if_any_named n (Some x) f r (Memᴰ.head e) = f r (ap Some (sym e))
-if_any_named n (Some x) f r (Memᴰ.tail i) = absurd (Memᴰ.not-nil i)
+some_named : (n : ℕ) (o : Option Law) → ((r : Law) → o ≡ Some r → NamesBelow n r) → (r : Law) → r ∈ option_to_list o → NamesBelow n r
+some_named n None f r i = absurd (Memᴰ.not-nil i)
+some_named n (Some x) f r (Memᴰ.head e) = f r (ap Some (sym e))
+some_named n (Some x) f r (Memᴰ.tail i) = absurd (Memᴰ.not-nil i)
 
 field_named : (n : ℕ) (k : PlanKind) (bytes : List ℕ) (r : Law) → r ∈ rules_by k bytes n → NamesBelow n r
 field_named n Head bytes r i = absurd (Memᴰ.not-nil i)
 field_named n Positions bytes r i = absurd (Memᴰ.not-nil i)
-field_named n (Rule k) bytes r i = if_any_named n (rule_in k bytes n) (rule_named k bytes n) r i
+field_named n (Rule k) bytes r i = some_named n (rule_in k bytes n) (rule_named k bytes n) r i
 field_named n End bytes r i = absurd (Memᴰ.not-nil i)
 
 fields_named : (n : ℕ) (ps : List Field) (r : Law) → r ∈ flat_map (rule_by n) ps → NamesBelow n r
@@ -143,11 +143,11 @@ field_inside text at p e = by_prefix text at (prefix_at text at) refl p e
 load_sound : (p : Plan) → WellNamed (load_of p).plan → SoundLoad (load_of p)
 load_sound p named =
     record {
-      some_gates = p.gated.0;
-      few_gates = p.gated.1;
-      some_positions = p.wide.0;
-      few_positions = p.wide.1;
-      few_rules = let few = p.ruled in let k = length-map (take p.count p.rules) rule_of in let t = length-take p.count p.rules in omega arith;
+      some_gates = p.some_gates;
+      few_gates = p.few_gates;
+      some_positions = p.some_positions;
+      few_positions = p.few_positions;
+      few_rules = let few = p.few_rules in let k = length-map (take p.count p.rules) rule_of in let t = length-take p.count p.rules in omega arith;
       named = named;
       inside = λ g q t. (
         ltb→lt g p.gates (left (ltb g p.gates) _ t),

@@ -1,5 +1,5 @@
 -- A plan that has taken some of the fields.
-use Rattle.std.specs.Prelude.{◌≡◌, ℕ, ◌+◌, ◌<◌, ◌≤◌, Bool, true, false, List, [], ◌∷◌, ◌++◌, length, Some, None, Ok, Err, Option, Result, slice_index_or}
+use Rattle.std.specs.Prelude.{◌≡◌, ℕ, ◌+◌, ◌<◌, ◌≤◌, Bool, true, false, cond, List, [], ◌∷◌, ◌++◌, length, Some, None, Ok, Err, Option, Result, slice_index_or}
 use Rattle.model.specs.Bounds.{most_gates, most_width, most_rules}
 use Rattle.model.specs.declared.refusal.Refusal.TheVariants.{Misplaced, OutOfRange, TooManyRules}
 use Rattle.text.specs.declared.fault.Fault.{Fault}
@@ -28,11 +28,18 @@ pub record Holds (d : Draft) (ps : List Field) : Type 0 where
   pub room : length d.plan.rules ≡ most_rules
   pub rules : rules_of d.plan ≡ rules_in ps
 
--- one field more: nothing is wrong with it, and the draft has it, or it is End; or its fault
-abbrev pub Took : Draft → List Field → Field → Result Bool Fault → Type 0
-Took d ps p (Ok true) = (fault ps p ≡ None) × (is_end p.kind ≡ false) × Holds d (ps ++ (p ∷ []))
-Took d ps p (Ok false) = (fault ps p ≡ None) × (is_end p.kind ≡ true) × Holds d ps
+-- the fields with one more: End adds nothing
+abbrev pub with_field : List Field → Field → List Field
+with_field ps p = cond (is_end p.kind) ps (ps ++ (p ∷ []))
+
+-- one field more: nothing is wrong with it, and the draft has it; or its fault
+abbrev pub Took : Draft → List Field → Field → Result Unit Fault → Type 0
+Took d ps p (Ok u) = (fault ps p ≡ None) × Holds d (with_field ps p)
 Took d ps p (Err e) = (fault ps p ≡ Some e.refusal) × (e.place ≡ p.place)
+
+-- the same for whichever fields the draft held before
+abbrev pub Takes : Draft → Draft → Field → Result Unit Fault → Type 0
+Takes old new p r = (ps : List Field) → Holds old ps → Took new ps p r
 
 -- where a reading stands: the fields that the draft has, and that what follows decides what the text says
 pub record Underway (text : List ℕ) (at : ℕ) (d : Draft) : Type 0 where
@@ -46,12 +53,6 @@ pub record Underway (text : List ℕ) (at : ℕ) (d : Draft) : Type 0 where
 abbrev pub Begun : List ℕ → ℕ → Result Draft Fault → Type 0
 Begun text at (Ok d) = Underway text at d
 Begun text at (Err e) = Err e ≡ plan_text text
-
--- a field more: the reading goes on, the plan is whole, or the text has its first fault there
-abbrev pub Stepped : List ℕ → ℕ → Draft → Result Bool Fault → Type 0
-Stepped text at d (Ok true) = Underway text at d
-Stepped text at d (Ok false) = Ok (record { load = load_of d.plan; read = at }) ≡ plan_text text
-Stepped text at d (Err e) = Err e ≡ plan_text text
 
 -- the answer that a value of the code stands for
 abbrev pub seen_plan : Result Loaded Fault → Result Reading Fault

@@ -1,6 +1,7 @@
 -- The plan that a text says, or its first fault. Every check and the plan itself go by the fields before, and by nothing else.
 use Rattle.std.specs.Prelude.{ℕ, zero, suc, Bool, true, false, not, ◌&&◌, ◌||◌, List, [], ◌∷◌, ◌++◌, length, drop, Some, None, Ok, Err, Option, Result, ◌==◌, nat_le, nat_lt}
-use Rattle.std.specs.List.{flat_map}
+use Rattle.std.specs.List.{flat_map, list_any}
+use Rattle.std.specs.Option.{is_none, option_to_list}
 use Rattle.model.specs.Bounds.{most_rules}
 use Rattle.model.specs.Rules.{Rule as Law}
 use Rattle.model.specs.Plans.{Load}
@@ -60,27 +61,21 @@ lists g p = lists_by p.kind g p.bytes
 
 -- does one of the fields?
 abbrev pub is_listed : List Field → ℕ → Bool
-is_listed [] g = false
-is_listed (p ∷ ps) g = lists g p || is_listed ps g
+is_listed ps g = list_any (lists g) ps
 
 -- does a field that lists the positions of gate g have q among them?
 abbrev pub chosen : List Field → ℕ → ℕ → Bool
-chosen [] g q = false
-chosen (p ∷ ps) g q = (lists g p && covered (drop 1 p.bytes) q) || chosen ps g q
+chosen ps g q = list_any (λ p. lists g p && covered (drop 1 p.bytes) q) ps
 
 -- a gate that no field lists starts with every position, any other with those that are listed
 abbrev pub opens : List Field → ℕ → ℕ → Bool
 opens ps g q = not (is_listed ps g) || chosen ps g q
 
 -- the rules, in text order
-abbrev pub if_any : Option Law → List Law
-if_any (Some r) = r ∷ []
-if_any None = []
-
 abbrev pub rules_by : PlanKind → List ℕ → ℕ → List Law
 rules_by Head bytes n = []
 rules_by Positions bytes n = []
-rules_by (Rule k) bytes n = if_any (rule_in k bytes n)
+rules_by (Rule k) bytes n = option_to_list (rule_in k bytes n)
 rules_by End bytes n = []
 
 abbrev pub rule_by : ℕ → Field → List Law
@@ -112,14 +107,10 @@ misplaced [] p = not (is_head p.kind)
 misplaced (q ∷ ps) p = misplaced_by (q ∷ ps) p.kind p.bytes
 
 -- a number out of range, or numbers that do not go together
-abbrev pub absent : {X : Type 0} → Option X → Bool
-absent (Some x) = false
-absent None = true
-
 abbrev pub unfit_by : Size → PlanKind → List ℕ → Bool
-unfit_by size Head bytes = absent (head_of bytes)
-unfit_by size Positions bytes = absent (listing_of bytes size.gates size.width)
-unfit_by size (Rule k) bytes = absent (rule_in k bytes size.gates)
+unfit_by size Head bytes = is_none (head_of bytes)
+unfit_by size Positions bytes = is_none (listing_of bytes size.gates size.width)
+unfit_by size (Rule k) bytes = is_none (rule_in k bytes size.gates)
 unfit_by size End bytes = false
 
 -- a rule, where there are as many as a plan holds

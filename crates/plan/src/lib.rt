@@ -12,15 +12,18 @@ mod questions;
 pub mod read;
 pub mod trials;
 
+// kept: fixed tables with a count, since a plan is `Copy` and the library has no heap.
 /// Gates, width, the positions that each gate starts with, and the first `count` of the rules, in text order.
-#[derive(Clone, Copy)]
+#[derive(Clone, Copy, Debug, PartialEq, Eq)]
 pub struct Plan {
     gates: usize,
     width: usize,
     starts: [[bool; WIDTH]; GATES],
     rules: [Rule; RULES],
     count: usize,
-    ghost gated: { (1 ≤ gates) × (gates ≤ most_gates) },
-    ghost wide: { (1 ≤ width) × (width ≤ most_width) },
-    ghost ruled: { count ≤ most_rules },
+    ghost some_gates: { 1 ≤ gates },
+    ghost few_gates: { gates ≤ most_gates },
+    ghost some_positions: { 1 ≤ width },
+    ghost few_positions: { width ≤ most_width },
+    ghost few_rules: { count ≤ most_rules },
 }

@@ -32,7 +32,6 @@ impl Plan {
     pub fn rules(&self) -> &[Rule]
         ensures { map rule_of result.now ≡ (load_of self.now).plan.rules }
     {
-        let count = self.count;
-        &self.rules[..count]
+        &self.rules[..self.count]
     }
 }

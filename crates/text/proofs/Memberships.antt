@@ -1,21 +1,31 @@
 -- Members with gates that differ, as a loop that adds one after another has them.
-use Rattle.std.proofs.Common.{◌≡◌, ℕ, ◌+◌, ◌-◌, ◌<◌, ◌≤◌, true, false, cond, ◌&&◌, ◌||◌, leb, List, [], ◌∷◌, ◌++◌, map, length, get_or, take, drop, set, Some, None, Option, sym, refl, ap, ◌∙◌, subst, append-nil, arith}
-use Rattle.std.proofs.lemmas.List.{append_assoc, take_more_set, take_rest, map_push}
+use Rattle.std.proofs.Common.{◌≡◌, ℕ, ◌+◌, ◌/◌, ◌<◌, ◌≤◌, true, false, ◌||◌, eqb, leb, List, [], ◌∷◌, ◌++◌, map, length, get_or, take, set, Some, None, sym, refl, ap, ◌∙◌, arith}
+use Rattle.std.proofs.lemmas.List.{append_assoc, take_more_set, map_push}
+use Rattle.std.proofs.lemmas.List.Folds.{list_any-append}
 use Rattle.std.proofs.lemmas.Bool.Decides.{nat_tests}
-use Rattle.std.proofs.lemmas.Bool.{and_left, and_right, lt-leb, le-leb, cond-false, cond-true, and_from}
+use Rattle.std.proofs.lemmas.Bool.{and_left, and_right, lt-leb, cond-false}
 use Rattle.model.specs.Bounds.{most_members}
 use Rattle.model.specs.Members.{member_of, has_gate, gates_differ}
 use Rattle.model.specs.declared.rule.member.Member.{Member}
 use Rattle.text.specs.Tests.{within}
-use Rattle.text.specs.Payloads.{members_in, gates_below, members_of, quad_at, with_members, total_in}
-use Rattle.text.proofs.Pairings.{past, peel}
+use Rattle.text.specs.Payloads.{members_in, gates_below, members_of}
+use Rattle.text.proofs.Pairings.{peel}
 
-pub members_peel : (xs : List ℕ) → 2 ≤ length xs → members_in xs ≡ (get_or xs 0 0, get_or xs 1 0) ∷ members_in (past xs)
-members_peel xs h = ap members_in (peel xs h)
+pub members_peel : (xs pair rest : List ℕ) → xs ≡ pair ++ rest → length pair ≡ 2 → members_in xs ≡ (get_or pair 0 0, get_or pair 1 0) ∷ members_in rest
+members_peel xs pair rest e n = ap members_in (peel xs pair rest e n)
+
+pub length-members_in : (xs : List ℕ) → length (members_in xs) ≡ length xs / 2
+length-members_in [] = refl
+length-members_in (a ∷ []) = refl
+length-members_in (a ∷ (b ∷ xs)) = let i = length-members_in xs in omega arith
+
+-- those held, then the next pair and what follows
+pub next_pair : (list : List Member) (n i : ℕ) (xs pair rest pairs : List ℕ) → i ≡ n → xs ≡ pair ++ rest → length pair ≡ 2 → map member_of (take n list) ++ members_in xs ≡ members_in pairs
+    → map member_of (take i list) ++ ((get_or pair 0 0, get_or pair 1 0) ∷ members_in rest) ≡ members_in pairs
+next_pair list n i xs pair rest pairs same e two all = rw same (ap (λ (t : List (ℕ × ℕ)). map member_of (take n list) ++ t) (sym (members_peel xs pair rest e two)) ∙ all)
 
 has_append : (xs ys : List (ℕ × ℕ)) (g : ℕ) → has_gate (xs ++ ys) g ≡ (has_gate xs g || has_gate ys g)
-has_append [] ys g = refl
-has_append (x ∷ xs) ys g = let i = has_append xs ys g in grind arith
+has_append xs ys g = list_any-append (λ m. eqb m.0 g) xs ys
 
 pub differ_push : (xs : List (ℕ × ℕ)) (m : ℕ × ℕ) → gates_differ xs ≡ true → has_gate xs m.0 ≡ false → gates_differ (xs ++ (m ∷ [])) ≡ true
 differ_push [] m a l = refl
@@ -58,22 +68,6 @@ pub twice : (bytes : List ℕ) (n : ℕ) → gates_differ (members_in bytes) ≡
 twice bytes n e =
     sym (cond-false _ (Some (members_in bytes)) _ (and_right (within 1 most_members (length (members_in bytes))) _ (and_right (gates_below n (members_in bytes)) _ e)))
 
-members_end : (xs : List ℕ) → length xs < 2 → members_in xs ≡ []
-members_end [] h = refl
-members_end (a ∷ []) h = refl
-members_end (a ∷ (b ∷ xs)) h = absurd (omega arith)
-
--- the end of the loop: those held are all
-pub are_all : (bytes : List ℕ) (held : List (ℕ × ℕ)) (rest : List ℕ) → held ++ members_in rest ≡ members_in bytes → length rest < 2 → held ≡ members_in bytes
-are_all bytes held rest e h = sym (append-nil held) ∙ (ap (λ (t : List (ℕ × ℕ)). held ++ t) (sym (members_end rest h)) ∙ e)
-
-pub all_held : (bytes : List ℕ) (n : ℕ) (held : List (ℕ × ℕ)) (rest : List ℕ) → held ++ members_in rest ≡ members_in bytes → length rest < 2
-    → 1 ≤ length held → length held ≤ most_members → gates_below n held ≡ true → gates_differ held ≡ true → Some held ≡ members_of bytes n
-all_held bytes n held rest e h some few below differ =
-    let all : held ≡ members_in bytes = are_all bytes held rest e h in
-    subst (λ (ms : List (ℕ × ℕ)). Some held ≡ cond (within 1 most_members (length ms) && (gates_below n ms && gates_differ ms)) (Some ms) None) all
-    (sym (cond-true _ (Some held) _ (and_from _ _ (and_from _ _ (le-leb _ _ some) (le-leb _ _ few)) (and_from _ _ below differ))))
-
 -- one member more at the end of those held
 pub held_push : (list : List Member) (count : ℕ) (m : Member) → count < length list
     → map member_of (take (count + 1) (set list count m)) ≡ map member_of (take count list) ++ (member_of m ∷ [])
@@ -84,14 +78,3 @@ pub one_more : (list : List Member) (count : ℕ) (m : Member) (ys zs : List (�
 one_more list count m ys zs h e =
     ap (λ (t : List (ℕ × ℕ)). t ++ ys) (held_push list count m h)
     ∙ (append_assoc (map member_of (take count list)) (member_of m ∷ []) ys ∙ e)
-
-module _ (bytes : List ℕ) (n low high : ℕ) (long : 8 ≤ length bytes) (is-low : low ≡ quad_at bytes 0) (is-high : high ≡ quad_at bytes 4) (up : low ≤ high) where
-  -- a total is its bounds with what the members give
-  pub total_by : (r : Option (List (ℕ × ℕ))) → r ≡ members_of (take (length bytes - 8) (drop 8 bytes)) n → with_members low high r ≡ total_in bytes n
-  total_by r e =
-      let le : quad_at bytes 0 ≤ quad_at bytes 4 = omega arith in
-      let w : with_members low high r ≡ with_members (quad_at bytes 0) (quad_at bytes 4) (members_of (drop 8 bytes) n) =
-      ap (λ (a : ℕ). with_members a high r) is-low
-      ∙ (ap (λ (b : ℕ). with_members (quad_at bytes 0) b r) is-high
-      ∙ ap (with_members (quad_at bytes 0) (quad_at bytes 4)) (e ∙ ap (λ (t : List ℕ). members_of t n) (take_rest bytes 8))) in
-      w ∙ sym (cond-true _ _ _ (and_from _ _ (le-leb _ _ long) (le-leb _ _ le)))

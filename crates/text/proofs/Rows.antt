@@ -1,17 +1,18 @@
 -- The laws of ranges, as a loop over pairs of bytes takes them.
-use Rattle.std.proofs.Common.{◌≡◌, ℕ, ◌<◌, ◌≤◌, Bool, true, false, ◌&&◌, ◌||◌, ltb, leb, List, [], ◌∷◌, map, length, get_or, Some, None, sym, refl, ap, ◌∙◌, arith}
+use Rattle.std.proofs.Common.{◌≡◌, ℕ, ◌<◌, Bool, true, false, ◌&&◌, ◌||◌, ltb, leb, List, [], ◌∷◌, ◌++◌, map, length, get_or, Some, None, sym, refl, ap, ◌∙◌, arith}
 use Rattle.std.specs.List.{range_with_len}
 use Rattle.std.proofs.lemmas.List.FromFn.{fill_by_all}
 use Rattle.model.specs.Bounds.{most_width}
 use Rattle.text.specs.Tests.{when, within}
 use Rattle.text.specs.Ranges.{covered, sound, row_of}
-use Rattle.text.proofs.Pairings.{past, peel}
+use Rattle.text.proofs.Pairings.{peel}
 
-pub sound_peel : (xs : List ℕ) (w : ℕ) → 2 ≤ length xs → sound xs w ≡ ((leb (get_or xs 0 0) (get_or xs 1 0) && ltb (get_or xs 1 0) w) && sound (past xs) w)
-sound_peel xs w h = ap (λ (t : List ℕ). sound t w) (peel xs h)
+module _ (xs range rest : List ℕ) (e : xs ≡ range ++ rest) (n : length range ≡ 2) where
+  pub sound_peel : (w : ℕ) → sound xs w ≡ ((leb (get_or range 0 0) (get_or range 1 0) && ltb (get_or range 1 0) w) && sound rest w)
+  sound_peel w = ap (λ (t : List ℕ). sound t w) (peel xs range rest e n)
 
-pub covered_peel : (xs : List ℕ) (q : ℕ) → 2 ≤ length xs → covered xs q ≡ (within (get_or xs 0 0) (get_or xs 1 0) q || covered (past xs) q)
-covered_peel xs q h = ap (λ (t : List ℕ). covered t q) (peel xs h)
+  pub covered_peel : (q : ℕ) → covered xs q ≡ (within (get_or range 0 0) (get_or range 1 0) q || covered rest q)
+  covered_peel q = ap (λ (t : List ℕ). covered t q) (peel xs range rest e n)
 
 pub sound_end : (xs : List ℕ) (w : ℕ) → length xs < 2 → sound xs w ≡ true
 sound_end [] w h = refl

@@ -1,4 +1,5 @@
 pub mod Tests
+pub mod Faults
 pub mod Lengths
 pub mod Fields
 pub mod Readers

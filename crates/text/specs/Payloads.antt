@@ -1,14 +1,12 @@
 -- What the payloads of a plan's fields say. Each says nothing where a number is out of range, or where its numbers do not go together.
 use Rattle.std.specs.Prelude.{ℕ, ◌+◌, ◌-◌, ◌*◌, Bool, true, cond, not, ◌&&◌, List, [], ◌∷◌, length, drop, ℤ, pos, negsuc, Some, None, Option, ◌==◌, int_le, nat_le, nat_lt, slice_index}
-use Rattle.std.proofs.Common.{to_z}
-use Rattle.std.specs.Int.{w16}
+use Rattle.std.specs.Int.{cast_signed, w16}
 use Rattle.std.specs.Option.{option_map}
 use Rattle.model.specs.Bounds.{most_gates, most_width, most_members, most_shift}
 use Rattle.model.specs.Members.{gates_differ}
 use Rattle.model.specs.Rules.{Rule, offset, near, not_above, total}
 use Rattle.model.specs.declared.rule.pair.Pair.{Pair}
 use Rattle.text.specs.declared.head.Head.{Head}
-use Rattle.text.specs.declared.numbers.Link.{Link}
 use Rattle.text.specs.declared.kind.RuleKind.{RuleKind}
 use Rattle.text.specs.declared.kind.RuleKind.TheVariants.{Offset, Near, NotAbove, Total}
 use Rattle.text.specs.Tests.{when, within}
@@ -33,7 +31,7 @@ pair_of n x y = when (two_gates n x y) (x, y)
 
 -- a number of two bytes in two's complement
 abbrev pub signed : ℕ → ℕ → ℤ
-signed high low = to_z w16 (two_bytes high low)
+signed high low = cast_signed w16 (two_bytes high low)
 
 -- c is no further from 0 than the bound
 abbrev pub small : ℤ → Bool
@@ -49,8 +47,8 @@ link_in bytes n =
     (length bytes == 4 && (two_gates n (slice_index bytes 0) (slice_index bytes 1) && small (signed (slice_index bytes 2) (slice_index bytes 3))))
     (slice_index bytes 0, slice_index bytes 1, signed (slice_index bytes 2) (slice_index bytes 3))
 
-abbrev pub link_of : Link → ℕ × ℕ × ℤ
-link_of l = (l.pair.x, l.pair.y, l.c)
+abbrev pub link_of : Pair × ℤ → ℕ × ℕ × ℤ
+link_of l = (l.0.x, l.0.y, l.1)
 
 -- x, y and d
 abbrev pub near_in : List ℕ → ℕ → Option Rule

@@ -17,7 +17,7 @@ pub trait Kinds: Sized {
 }
 
 /// What a field is about, where its tag stands, and its payload.
-#[derive(Drop)]
+#[derive(Debug, PartialEq, Eq, Hash, Drop)]
 pub struct Field<'a, K> {
     pub kind: K,
     pub place: usize,

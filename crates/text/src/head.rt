@@ -5,7 +5,7 @@ ghost use Rattle.text.specs.Payloads.{head_of};
 use model::bounds::{GATES, WIDTH};
 
 /// How many gates a plan has, and how many positions a gate has.
-#[derive(Clone, Copy)]
+#[derive(Clone, Copy, Debug, PartialEq, Eq, Hash)]
 pub struct Head {
     pub gates: usize,
     pub width: usize,
@@ -20,7 +20,7 @@ pub fn read_head(payload: &[u8]) -> Option<Head>
     };
     let gates = usize::from(*n);
     let width = usize::from(u16::from_be_bytes([*high, *low]));
-    if gates < 1 || gates > GATES || width < 1 || width > WIDTH {
+    if !(1..=GATES).contains(&gates) || !(1..=WIDTH).contains(&width) {
         return None;
     }
     Some(Head { gates, width })

@@ -6,7 +6,7 @@ use model::bounds::{MEMBERS, RANGES};
 use model::refusal::Refusal;
 
 /// What a field of a plan is about.
-#[derive(Clone, Copy)]
+#[derive(Clone, Copy, Debug, PartialEq, Eq, Hash)]
 pub enum PlanKind {
     Head,
     Positions,
@@ -15,7 +15,7 @@ pub enum PlanKind {
 }
 
 /// Which rule a field has.
-#[derive(Clone, Copy)]
+#[derive(Clone, Copy, Debug, PartialEq, Eq, Hash)]
 pub enum RuleKind {
     Offset,
     Near,

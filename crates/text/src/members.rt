@@ -13,34 +13,24 @@ use model::rule::members::Members;
 fn is_member(members: &[Member], gate: u8) -> bool
     ensures { result ≡ has_gate (map member_of members.now) gate }
 {
-    for m in members {
-        if m.gate == gate {
-            return true;
-        }
-    }
-    false
+    members.iter().any(|m| m.gate == gate)
 }
 
 /// Members, or `None` where there is none, or where one's gate is not below `gates` or stands twice.
 pub(crate) fn read_members(pairs: &[u8], gates: usize) -> Option<Members>
     ensures { option_map listed result ≡ members_of pairs.now gates }
 {
-    let mut count = 0;
+    let count = pairs.len() / 2;
+    if count < 1 || count > MEMBERS {
+        return None;
+    }
     let mut list = [Member { gate: 0, weight: 0 }; MEMBERS];
-    let mut rest = pairs;
-    while let [gate, weight, tail @ ..] = rest {
-        if count >= MEMBERS || usize::from(*gate) >= gates || is_member(&list[0..count], *gate) {
+    for (i, pair) in pairs.chunks_exact(2).enumerate() {
+        let (gate, weight) = (pair[0], pair[1]);
+        if usize::from(gate) >= gates || is_member(&list[..i], gate) {
             return None;
         }
-        list[count] = Member {
-            gate: *gate,
-            weight: *weight,
-        };
-        count += 1;
-        rest = tail;
-    }
-    if count < 1 {
-        return None;
+        list[i] = Member { gate, weight };
     }
     Some(Members { count, list })
 }

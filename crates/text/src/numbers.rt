@@ -6,13 +6,6 @@ ghost use Rattle.text.specs.Payloads.{pair_of, shift_of, gates_of, link_in, link
 use model::bounds::SHIFT;
 use model::rule::pair::Pair;
 
-/// Two different gates and a constant.
-#[derive(Clone, Copy)]
-pub(crate) struct Link {
-    pub(crate) pair: Pair,
-    pub(crate) c: i16,
-}
-
 /// Two different gates of a plan.
 pub(crate) fn read_pair(x: u8, y: u8, gates: usize) -> Option<Pair>
     ensures { option_map gates_of result ≡ pair_of gates x y }
@@ -28,20 +21,15 @@ fn read_shift(high: u8, low: u8) -> Option<i16>
     ensures { result ≡ shift_of high low }
 {
     let c = i16::from_be_bytes([high, low]);
-    if c < -SHIFT || c > SHIFT {
-        return None;
-    }
-    Some(c)
+    (-SHIFT..=SHIFT).contains(&c).then_some(c)
 }
 
 /// The gates x and y, and the constant c.
-pub(crate) fn read_link(payload: &[u8], gates: usize) -> Option<Link>
+pub(crate) fn read_link(payload: &[u8], gates: usize) -> Option<(Pair, i16)>
     ensures { option_map link_of result ≡ link_in payload.now gates }
 {
     let [x, y, high, low] = payload else {
         return None;
     };
-    let pair = read_pair(*x, *y, gates)?;
-    let c = read_shift(*high, *low)?;
-    Some(Link { pair, c })
+    Some((read_pair(*x, *y, gates)?, read_shift(*high, *low)?))
 }

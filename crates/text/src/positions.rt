@@ -7,7 +7,7 @@ ghost use Rattle.text.specs.Ranges.{row_of, listing_of};
 use model::bounds::WIDTH;
 
 /// A gate, and whether it starts with each position.
-#[derive(Clone, Copy)]
+#[derive(Clone, Copy, Debug, PartialEq, Eq, Hash)]
 pub struct Listing {
     pub gate: usize,
     pub row: [bool; WIDTH],
@@ -18,9 +18,7 @@ fn mark(row: &mut [bool; WIDTH], first: u8, last: u8)
     requires { first ≤ last }
     ensures { (p : ℕ) → p < most_width → slice_index_or row.new p false ≡ (within first last p || slice_index_or row.old p false) }
 {
-    for p in usize::from(first)..usize::from(last) + 1 {
-        row[p] = true;
-    }
+    row[usize::from(first)..=usize::from(last)].fill(true);
 }
 
 /// The positions that ranges cover, or `None` where one's first is above its last, or its last is not below `width`.
@@ -28,13 +26,12 @@ fn read_row(ranges: &[u8], width: usize) -> Option<[bool; WIDTH]>
     ensures { result ≡ row_of ranges.now width }
 {
     let mut row = [false; WIDTH];
-    let mut rest = ranges;
-    while let [first, last, tail @ ..] = rest {
-        if *first > *last || usize::from(*last) >= width {
+    for range in ranges.chunks_exact(2) {
+        let (first, last) = (range[0], range[1]);
+        if first > last || usize::from(last) >= width {
             return None;
         }
-        mark(&mut row, *first, *last);
-        rest = tail;
+        mark(&mut row, first, last);
     }
     Some(row)
 }
@@ -43,9 +40,7 @@ fn read_row(ranges: &[u8], width: usize) -> Option<[bool; WIDTH]>
 pub fn read_positions(payload: &[u8], gates: usize, width: usize) -> Option<Listing>
     ensures { result ≡ listing_of payload.now gates width }
 {
-    let Some((first, ranges)) = payload.split_first() else {
-        return None;
-    };
+    let (first, ranges) = payload.split_first()?;
     let gate = usize::from(*first);
     if gate >= gates {
         return None;

@@ -5,7 +5,7 @@ mod place;
 mod walk;
 
 /// Hands out the fields of a text, one a call.
-#[derive(Drop)]
+#[derive(Debug, Drop)]
 pub struct Reader<'a> {
     text: &'a [u8],
     at: usize,

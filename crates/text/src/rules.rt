@@ -25,11 +25,10 @@ fn read_near(payload: &[u8], gates: usize) -> Option<Rule>
 fn read_total(payload: &[u8], gates: usize) -> Option<Rule>
     ensures { option_map rule_of result ≡ total_in payload.now gates }
 {
-    let [a, b, c, d, e, f, g, h, pairs @ ..] = payload else {
-        return None;
-    };
-    let low = u32::from_be_bytes([*a, *b, *c, *d]);
-    let high = u32::from_be_bytes([*e, *f, *g, *h]);
+    let (low, rest) = payload.split_first_chunk()?;
+    let (high, pairs) = rest.split_first_chunk()?;
+    let low = u32::from_be_bytes(*low);
+    let high = u32::from_be_bytes(*high);
     if low > high {
         return None;
     }
@@ -43,19 +42,13 @@ pub fn read_rule(kind: RuleKind, payload: &[u8], gates: usize) -> Option<Rule>
 {
     match kind {
         RuleKind::Offset => {
-            let link = read_link(payload, gates)?;
-            Some(Rule::Offset(Offset {
-                pair: link.pair,
-                c: link.c,
-            }))
+            let (pair, c) = read_link(payload, gates)?;
+            Some(Rule::Offset(Offset { pair, c }))
         }
         RuleKind::Near => read_near(payload, gates),
         RuleKind::NotAbove => {
-            let link = read_link(payload, gates)?;
-            Some(Rule::NotAbove(NotAbove {
-                pair: link.pair,
-                c: link.c,
-            }))
+            let (pair, c) = read_link(payload, gates)?;
+            Some(Rule::NotAbove(NotAbove { pair, c }))
         }
         RuleKind::Total => read_total(payload, gates),
     }

@@ -6,8 +6,10 @@ ghost use Rattle.model.specs.Members.{member_of, gates_differ};
 use super::member::Member;
 use crate::bounds::MEMBERS;
 
+// kept: a fixed array with a count, since a rule is `Copy` and the library has no heap.
 /// The first `count` of the list, one at least. No gate is a member twice.
-#[derive(Clone, Copy)]
+/// Two are equal if they agree in every place of the list, those past `count` too.
+#[derive(Clone, Copy, Debug, PartialEq, Eq, Hash)]
 pub struct Members {
     pub count: usize,
     pub list: [Member; MEMBERS],

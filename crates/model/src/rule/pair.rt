@@ -2,7 +2,7 @@
 ghost use Rattle.std.specs.Prelude.{◌≡◌, ◌≢◌};
 
 /// Two different gates.
-#[derive(Clone, Copy)]
+#[derive(Clone, Copy, Debug, PartialEq, Eq, Hash)]
 pub struct Pair {
     pub x: u8,
     pub y: u8,
@@ -10,21 +10,21 @@ pub struct Pair {
 }
 
 /// x = y + c
-#[derive(Clone, Copy)]
+#[derive(Clone, Copy, Debug, PartialEq, Eq, Hash)]
 pub struct Offset {
     pub pair: Pair,
     pub c: i16,
 }
 
 /// x and y differ by at most d.
-#[derive(Clone, Copy)]
+#[derive(Clone, Copy, Debug, PartialEq, Eq, Hash)]
 pub struct Near {
     pub pair: Pair,
     pub d: u8,
 }
 
 /// x ≤ y + c
-#[derive(Clone, Copy)]
+#[derive(Clone, Copy, Debug, PartialEq, Eq, Hash)]
 pub struct NotAbove {
     pub pair: Pair,
     pub c: i16,

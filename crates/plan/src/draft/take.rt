@@ -5,7 +5,7 @@ ghost use Rattle.text.specs.declared.kind.PlanKind.TheVariants.{Head as headKind
 ghost use Rattle.text.specs.Fields.{part};
 ghost use Rattle.text.specs.Payloads.{head_of};
 ghost use Rattle.plan.specs.Plans.{Field as Part, repeated};
-ghost use Rattle.plan.specs.Drafts.{judged, Holds, Took};
+ghost use Rattle.plan.specs.Drafts.{judged, Holds, Takes};
 
 use super::Draft;
 use crate::Plan;
@@ -17,7 +17,7 @@ use text::fault::Fault;
 use text::field::Field;
 use text::head::Head;
 use text::kind::{PlanKind, RuleKind};
-use text::positions::read_positions;
+use text::positions::{Listing, read_positions};
 use text::rules::read_rule;
 
 /// What a field gave, or its fault by the first row of the table that applies.
@@ -32,9 +32,7 @@ pub(crate) fn judge<T: Drop>(
     if misplaced {
         return Err(field.fault(Refusal::Misplaced));
     }
-    let Some(item) = given else {
-        return Err(field.fault(Refusal::OutOfRange));
-    };
+    let item = given.ok_or(field.fault(Refusal::OutOfRange))?;
     if full {
         return Err(field.fault(Refusal::TooManyRules));
     }
@@ -44,7 +42,10 @@ pub(crate) fn judge<T: Drop>(
 impl Draft {
     /// A plan of its first field alone: every position open, and no rule.
     pub(crate) fn new(head: Head) -> Draft
-        requires { (1 ≤ head.gates) × (head.gates ≤ most_gates) × (1 ≤ head.width) × (head.width ≤ most_width) }
+        requires some_gates { 1 ≤ head.gates }
+        requires few_gates { head.gates ≤ most_gates }
+        requires some_positions { 1 ≤ head.width }
+        requires few_positions { head.width ≤ most_width }
         ensures { (p : Part) → p.kind ≡ headKind → head_of p.bytes ≡ Some head → Holds result (p ∷ []) }
     {
         let filler = Rule::Near(Near {
@@ -68,60 +69,55 @@ impl Draft {
     fn lists(&self, payload: &[u8]) -> bool
         ensures { (ps : List Part) → Holds self.now ps → result ≡ repeated ps payload.now }
     {
-        match payload.first() {
-            Some(gate) => {
-                let gate = usize::from(*gate);
-                gate < self.plan.gates && self.listed[gate]
-            }
-            None => false,
-        }
+        payload.first().is_some_and(|gate| {
+            let gate = usize::from(*gate);
+            gate < self.plan.gates && self.listed[gate]
+        })
     }
 
     /// Takes the positions that a gate starts with.
-    fn take_positions(&mut self, field: &Field<PlanKind>) -> Result<bool, Fault>
+    fn take_positions(&mut self, field: &Field<PlanKind>) -> Result<(), Fault>
         requires { field.now.kind ≡ positionsKind }
-        ensures { (ps : List Part) → Holds self.old ps → Took self.new ps (part field.now) result }
+        ensures { Takes self.old self.new (part field.now) result }
     {
         let again = self.lists(field.payload);
         let given = read_positions(field.payload, self.plan.gates, self.plan.width);
-        let listing = judge(field, again, given, false)?;
-        let gate = listing.gate;
-        let row = listing.row;
+        let Listing { gate, row } = judge(field, again, given, false)?;
         self.plan.starts[gate] = row;
         self.listed[gate] = true;
-        Ok(true)
+        Ok(())
     }
 
     /// Takes one rule more.
-    fn take_rule(&mut self, kind: RuleKind, field: &Field<PlanKind>) -> Result<bool, Fault>
+    fn take_rule(&mut self, kind: RuleKind, field: &Field<PlanKind>) -> Result<(), Fault>
         requires { field.now.kind ≡ ruleKind kind }
-        ensures { (ps : List Part) → Holds self.old ps → Took self.new ps (part field.now) result }
+        ensures { Takes self.old self.new (part field.now) result }
     {
         let count = self.plan.count;
         let given = read_rule(kind, field.payload, self.plan.gates);
         let rule = judge(field, false, given, count >= RULES)?;
         self.plan.rules[count] = rule;
         self.plan.count = count + 1;
-        Ok(true)
+        Ok(())
     }
 
     /// A second Head is misplaced, whatever it says.
-    fn take_head(&self, field: &Field<PlanKind>) -> Result<bool, Fault>
+    fn take_head(&self, field: &Field<PlanKind>) -> Result<(), Fault>
         requires { field.now.kind ≡ headKind }
-        ensures { (ps : List Part) → Holds self.now ps → Took self.now ps (part field.now) result }
+        ensures { Takes self.now self.now (part field.now) result }
     {
         Err(field.fault(Refusal::Misplaced))
     }
 
-    /// Takes one field more, and says whether more are to come; or tells its fault.
-    pub(crate) fn take(&mut self, field: &Field<PlanKind>) -> Result<bool, Fault>
-        ensures { (ps : List Part) → Holds self.old ps → Took self.new ps (part field.now) result }
+    /// Takes one field more, or tells its fault. End adds nothing.
+    pub(crate) fn take(&mut self, field: &Field<PlanKind>) -> Result<(), Fault>
+        ensures { Takes self.old self.new (part field.now) result }
     {
         match field.kind {
             PlanKind::Head => self.take_head(field),
             PlanKind::Positions => self.take_positions(field),
             PlanKind::Rule(kind) => self.take_rule(kind, field),
-            PlanKind::End => Ok(false),
+            PlanKind::End => Ok(()),
         }
     }
 }

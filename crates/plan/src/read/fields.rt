@@ -1,9 +1,9 @@
 // From a text's bytes to its plan.
-ghost use Rattle.std.specs.Prelude.{◌≡◌, ℕ, ◌<◌, true, List, Ok};
+ghost use Rattle.std.specs.Prelude.{◌≡◌};
 ghost use Rattle.text.specs.Readers.{text_of, place_of};
 ghost use Rattle.plan.specs.Plans.{is_head, plan_text};
 ghost use Rattle.plan.specs.Meanings.{MeansOnly, Sound};
-ghost use Rattle.plan.specs.Drafts.{Underway, Begun, Stepped, seen_plan};
+ghost use Rattle.plan.specs.Drafts.{Begun, seen_plan};
 
 use super::Loaded;
 use crate::draft::{Draft, judge};
@@ -16,15 +16,12 @@ use text::reader::Reader;
 fn is_head(kind: PlanKind) -> bool
     ensures { result ≡ is_head kind }
 {
-    match kind {
-        PlanKind::Head => true,
-        _ => false,
-    }
+    kind == PlanKind::Head
 }
 
 /// Takes the first field, which has to be Head.
 fn begin(reader: &mut Reader) -> Result<Draft, Fault>
-    ensures begun { (text : List ℕ) → text_of reader.old ≡ text → place_of reader.old ≡ 0 → Begun text (place_of reader.new) result }
+    ensures begun { place_of reader.old ≡ 0 → Begun (text_of reader.old) (place_of reader.new) result }
     ensures text { text_of reader.new ≡ text_of reader.old }
 {
     let first = reader.next()?;
@@ -37,27 +34,22 @@ fn begin(reader: &mut Reader) -> Result<Draft, Fault>
     Ok(Draft::new(head))
 }
 
-/// Takes the next field, and says whether more are to come.
-fn step(draft: &mut Draft, reader: &mut Reader) -> Result<bool, Fault>
-    ensures stepped { (text : List ℕ) → text_of reader.old ≡ text → Underway text (place_of reader.old) draft.old → Stepped text (place_of reader.new) draft.new result }
-    ensures text { text_of reader.new ≡ text_of reader.old }
-    ensures on { result ≡ Ok true → place_of reader.old < place_of reader.new }
-{
-    let field = reader.next()?;
-    draft.take(&field)
-}
-
 /// Reads the fields of a plan, up to and with End.
 fn read_fields(text: &[u8]) -> Result<Loaded, Fault>
     ensures { seen_plan result ≡ plan_text text.now }
 {
     let mut reader = Reader::new(text);
     let mut draft = begin(&mut reader)?;
-    while step(&mut draft, &mut reader)? {}
-    Ok(Loaded {
-        plan: draft.plan,
-        read: reader.place(),
-    })
+    loop {
+        let field = reader.next()?;
+        draft.take(&field)?;
+        if field.kind == PlanKind::End {
+            return Ok(Loaded {
+                plan: draft.plan,
+                read: reader.place(),
+            });
+        }
+    }
 }
 
 /// The plan that a text begins with, and the bytes that it takes up to and with its End; or the text's first fault.

@@ -16,49 +16,41 @@ fn prefix(text: &[u8], at: usize) -> Option<(u8, u16)>
     requires { at ≤ length text.now }
     ensures { result ≡ prefix_at text.now at }
 {
-    if text.len() - at < PREFIX {
+    let [tag, high, low, ..] = &text[at..] else {
         return None;
-    }
-    let len = u16::from_be_bytes([text[at + 1], text[at + 2]]);
-    Some((text[at], len))
+    };
+    Some((*tag, u16::from_be_bytes([*high, *low])))
 }
 
 /// The field at a place; its payload is the part of the text behind its prefix.
 fn field_at<'a, K: Kinds>(text: &'a [u8], place: usize) -> Result<Field<'a, K>, Fault>
     requires { place ≤ length text.now }
-    ensures value { seen result ≡ field_at K.Kinds.made text.now place }
+    ensures value { seen result ≡ field_at K.made text.now place }
     ensures inside { next_at (seen result) place ≤ length text.now }
 {
-    let Some((tag, len)) = prefix(text, place) else {
-        return Err(Fault {
-            refusal: Refusal::Truncated,
-            place,
-        });
-    };
+    let (tag, len) = prefix(text, place).ok_or(Fault {
+        refusal: Refusal::Truncated,
+        place,
+    })?;
     let start = place + PREFIX;
-    match K::of(tag, len, text.len() - start) {
-        Ok(kind) => Ok(Field {
-            kind,
-            place,
-            payload: &text[start..start + usize::from(len)],
-        }),
-        Err(refusal) => Err(Fault { refusal, place }),
-    }
+    let kind = K::of(tag, len, text.len() - start).map_err(|refusal| Fault { refusal, place })?;
+    let payload = &text[start..start + usize::from(len)];
+    Ok(Field {
+        kind,
+        place,
+        payload,
+    })
 }
 
 impl<'a> Reader<'a> {
     /// The next field, behind which the reader then stands, or a fault, which leaves it where it was.
     pub fn next<K: Kinds>(&mut self) -> Result<Field<'a, K>, Fault>
-        ensures value { seen result ≡ field_at K.Kinds.made (text_of self.old) (place_of self.old) }
+        ensures value { seen result ≡ field_at K.made (text_of self.old) (place_of self.old) }
         ensures text { text_of self.new ≡ text_of self.old }
         ensures at { place_of self.new ≡ next_at (seen result) (place_of self.old) }
     {
-        match field_at(self.text, self.at) {
-            Ok(field) => {
-                self.at += PREFIX + field.payload.len();
-                Ok(field)
-            }
-            Err(fault) => Err(fault),
-        }
+        let field = field_at(self.text, self.at)?;
+        self.at += PREFIX + field.payload.len();
+        Ok(field)
     }
 }

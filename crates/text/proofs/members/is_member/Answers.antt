@@ -1,28 +1,16 @@
-use Rattle.std.proofs.Common.{◌≡◌, ◌+◌, ◌<◌, ◌≤◌, map, length, drop, sym, ◌∙◌, arith, rules}
-use Rattle.std.proofs.lemmas.List.{at_drop_more, at_drop_all}
-use Rattle.std.proofs.lemmas.Bool.Decides.{nat_tests}
+use Rattle.std.proofs.Common.{◌≡◌, ℕ, ◌||◌, eqb, List, [], ◌∷◌, map, refl, ap, ◌∙◌, rules, tests}
+use Rattle.std.proofs.lemmas.Iterator.{YieldsList-from_slice}
+use Rattle.std.proofs.lemmas.Iterator.Search.{any_from_yields_List}
+use Rattle.std.specs.List.{list_any}
 use Rattle.model.specs.Members.{member_of, has_gate}
+use Rattle.model.specs.declared.rule.member.Member.{Member}
 use Rattle.text.proofs.members.is_member.Goals as goal
 
-pub returns-then-m-gate : goal.returns-then-m-gate
-returns-then-m-gate c =
-    let h : c.loop-m.m-index < length c.args.members.now = search rules in
-    let e = at_drop_more (λ xs. has_gate (map member_of xs) c.args.gate) c.args.members.now c.loop-m.m-index (record { gate = 0; weight = 0 }) h in
-    let i : has_gate (map member_of (drop c.loop-m.m-index c.args.members.now)) c.args.gate ≡ has_gate (map member_of c.args.members.now) c.args.gate = c.loop-m.invariant in
-    let t = c.if-m-gate.true in
-    grind (arith, nat_tests)
-
-pub loop-m-preserved : goal.loop-m-preserved
-loop-m-preserved c =
-    let h : c.loop-m.m-index < length c.args.members.now = search rules in
-    let e = at_drop_more (λ xs. has_gate (map member_of xs) c.args.gate) c.args.members.now c.loop-m.m-index (record { gate = 0; weight = 0 }) h in
-    let i : has_gate (map member_of (drop c.loop-m.m-index c.args.members.now)) c.args.gate ≡ has_gate (map member_of c.args.members.now) c.args.gate = c.loop-m.invariant in
-    let t = c.if-m-gate.false in
-    let g : has_gate (map member_of (drop (c.loop-m.m-index + 1) c.args.members.now)) c.args.gate ≡ has_gate (map member_of c.args.members.now) c.args.gate = grind (arith, nat_tests) in
-    g
+has_gate-map : (ms : List Member) (g : ℕ) → list_any (λ m. eqb m.gate g) ms ≡ has_gate (map member_of ms) g
+has_gate-map [] g = refl
+has_gate-map (m ∷ ms) g = ap (λ t. eqb m.gate g || t) (has_gate-map ms g)
 
 pub returns : goal.returns
 returns c =
-    let h : length c.args.members.now ≤ c.loop-m.m-index = search rules in
-    let i : has_gate (map member_of (drop c.loop-m.m-index c.args.members.now)) c.args.gate ≡ has_gate (map member_of c.args.members.now) c.args.gate = c.loop-m.invariant in
-    sym (at_drop_all (λ xs. has_gate (map member_of xs) c.args.gate) c.args.members.now c.loop-m.m-index h) ∙ i
+    any_from_yields_List (λ m. eqb m.gate c.args.gate) _ _ _ c.any.ensures.ran (YieldsList-from_slice c.args.members.now cc) (λ x b q k. search (rules, tests))
+    ∙ has_gate-map c.args.members.now c.args.gate

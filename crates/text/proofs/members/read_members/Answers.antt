@@ -1,60 +1,55 @@
-use Rattle.std.proofs.Common.{◌≡◌, ℕ, ◌<◌, ◌≤◌, false, List, ◌++◌, map, length, get_or, take, sym, ap, ◌∙◌, arith, length-append, length-take-le, rules}
-use native.Mathlib.Nat.{sub-zero}
-use lib.ListN.{length-map}
-use Rattle.model.specs.Members.{member_of, has_gate, gates_differ}
-use Rattle.model.specs.declared.rule.member.Member.{Member}
+use Rattle.std.proofs.Common.{◌≡◌, ◌+◌, ◌<◌, true, map, length, get_or, take, sym, ap, ◌∙◌, arith, length-append, rules}
+use Rattle.model.specs.Members.{member_of, gates_differ}
+use Rattle.std.specs.Iterator.Adapters.{enumerate_count, enumerate_source}
+use Rattle.std.specs.Slice.Iter.{chunks_exact_rest}
 use Rattle.text.specs.Payloads.{gates_below}
-use Rattle.text.proofs.Memberships.{members_peel, differ_push, differ_twice, below_push, below_high, too_many, too_few, too_high, twice, are_all, all_held, held_push, one_more}
+use Rattle.text.proofs.Memberships.{next_pair, length-members_in, differ_push, differ_twice, below_push, below_high, too_many, too_few, too_high, twice, held_push, one_more}
 use Rattle.text.proofs.members.read_members.Goals as goal
-use Rattle.text.proofs.members.read_members.Goals.{then-count-ge-MEMBERS-via-then-count-ge-MEMBERS, then-count-ge-MEMBERS-via-else-count-ge-MEMBERS+then-from-gates, then-count-ge-MEMBERS-via-else-count-ge-MEMBERS+else-from-gates+then-is_member}
-
-held_length : (list : List Member) (count : ℕ) → count ≤ length list → length (map member_of (take count list)) ≡ count
-held_length list count h = length-map (take count list) member_of ∙ length-take-le count list h
-
-pub returns-then-count-ge-MEMBERS : goal.returns-then-count-ge-MEMBERS
-returns-then-count-ge-MEMBERS c =
-    let two : 2 ≤ length c.loop-rest.rest.now = search rules in
-    let held = map member_of (take c.loop-rest.count c.loop-rest.list) in
-    let e = sym c.loop-rest.invariant.0 ∙ ap (λ t. map member_of (take c.loop-rest.count c.loop-rest.list) ++ t) (members_peel c.loop-rest.rest.now two) in
-    elim c.then-count-ge-MEMBERS.branch [
-      | then-count-ge-MEMBERS-via-then-count-ge-MEMBERS w ↦
-          too_many c.args.pairs.now c.args.gates
-          (let k : length (map member_of (take c.loop-rest.count c.loop-rest.list)) ≡ c.loop-rest.count =
-          length-map (take c.loop-rest.count c.loop-rest.list) member_of ∙ length-take-le c.loop-rest.count c.loop-rest.list (omega arith) in
-          omega (arith, w.if-count-ge-MEMBERS.true, simp length-append at (ap length e)))
-      | then-count-ge-MEMBERS-via-else-count-ge-MEMBERS+then-from-gates w ↦
-          too_high c.args.pairs.now c.args.gates
-          (ap (gates_below c.args.gates) e ∙ below_high c.args.gates held _ _ (omega (arith, w.from.ensures, w.if-from-gates.true)))
-      | then-count-ge-MEMBERS-via-else-count-ge-MEMBERS+else-from-gates+then-is_member w ↦
-          twice c.args.pairs.now c.args.gates
-          (ap gates_differ e
-          ∙ differ_twice held _ _
-          (ap (λ k. has_gate (map member_of (take k c.loop-rest.list)) (get_or c.loop-rest.rest.now 0 0)) (sym (sub-zero c.loop-rest.count)) ∙ sym w.if-is_member.ensures))
-    ]
-
-pub loop-rest-preserved : goal.loop-rest-preserved
-loop-rest-preserved c =
-    let two : 2 ≤ length c.loop-rest.rest.now = search rules in
-    let room : c.loop-rest.count < length c.loop-rest.list = search rules in
-    let held = map member_of (take c.loop-rest.count c.loop-rest.list) in
-    let e = ap (λ t. map member_of (take c.loop-rest.count c.loop-rest.list) ++ t) (sym (members_peel c.loop-rest.rest.now two)) ∙ c.loop-rest.invariant.0 in
-    let new : has_gate held (get_or c.loop-rest.rest.now 0 0) ≡ false =
-    ap (λ k. has_gate (map member_of (take k c.loop-rest.list)) (get_or c.loop-rest.rest.now 0 0)) (sym (sub-zero c.loop-rest.count)) ∙ sym c.if-is_member.ensures in (
-      one_more c.loop-rest.list c.loop-rest.count _ _ _ room e,
-      ap (gates_below c.args.gates) (held_push c.loop-rest.list c.loop-rest.count _ room) ∙ below_push c.args.gates held _ c.loop-rest.invariant.1 (omega arith),
-      ap gates_differ (held_push c.loop-rest.list c.loop-rest.count _ room) ∙ differ_push held _ c.loop-rest.invariant.2 new,
-      search rules,
-      search rules,
-    )
+use Rattle.text.proofs.members.read_members.Goals.{then-count-lt1-via-then-count-lt1, then-count-lt1-via-else-count-lt1+then-count-gt-MEMBERS, then-from-gates-via-then-from-gates, then-from-gates-via-else-from-gates+then-is_member}
 
 pub returns-then-count-lt1 : goal.returns-then-count-lt1
 returns-then-count-lt1 c =
-    let k = held_length c.loop-rest.list c.loop-rest.count (omega arith) in
-    let e = ap length (are_all c.args.pairs.now (map member_of (take c.loop-rest.count c.loop-rest.list)) c.loop-rest.rest.now c.loop-rest.invariant.0 (search rules)) in
-    too_few c.args.pairs.now c.args.gates (omega arith)
+    let n = length-members_in c.args.pairs.now in
+    elim c.then-count-lt1.branch [
+      | then-count-lt1-via-then-count-lt1 w ↦ too_few c.args.pairs.now c.args.gates (omega (arith, w.if-count-lt1.true))
+      | then-count-lt1-via-else-count-lt1+then-count-gt-MEMBERS w ↦ too_many c.args.pairs.now c.args.gates (omega (arith, w.if-count-gt-MEMBERS.true))
+    ]
 
-pub returns : goal.returns
-returns c =
-    let k = held_length c.loop-rest.list c.loop-rest.count (omega arith) in
-    all_held c.args.pairs.now c.args.gates (map member_of (take c.loop-rest.count c.loop-rest.list)) c.loop-rest.rest.now
-    c.loop-rest.invariant.0 (search rules) (omega arith) (omega arith) c.loop-rest.invariant.1 c.loop-rest.invariant.2
+pub returns-then-from-gates : goal.returns-then-from-gates
+returns-then-from-gates c =
+    let s = c.in-Some.ensures.steps in
+    let i = c.loop-i.invariant in
+    let held = map member_of (take c.in-Some.i c.loop-i.list) in
+    let e = sym (next_pair c.loop-i.list _ c.in-Some.i _ c.in-Some.pair.now _ c.args.pairs.now s.1 s.0.1.0 (s.0.1.1 ∙ i.two) i.all) in
+    elim c.then-from-gates.branch [
+      | then-from-gates-via-then-from-gates w ↦
+          too_high c.args.pairs.now c.args.gates
+          (ap (gates_below c.args.gates) e ∙ below_high c.args.gates held _ _ (omega (arith, c.from.ensures, w.if-from-gates.true)))
+      | then-from-gates-via-else-from-gates+then-is_member w ↦
+          twice c.args.pairs.now c.args.gates
+          (ap gates_differ e ∙ differ_twice held _ _ (sym w.if-is_member.ensures))
+    ]
+
+pub loop-i-preserved : goal.loop-i-preserved
+loop-i-preserved c =
+    let s = c.in-Some.ensures.steps in
+    let i = c.loop-i.invariant in
+    let held = map member_of (take c.in-Some.i c.loop-i.list) in
+    let two = s.0.1.1 ∙ i.two in
+    let e = next_pair c.loop-i.list _ c.in-Some.i _ c.in-Some.pair.now _ c.args.pairs.now s.1 s.0.1.0 two i.all in
+    let l = ap length s.0.1.0 in
+    let n = length-append c.in-Some.pair.now (chunks_exact_rest (enumerate_source c.next.new.self)) in
+    let counted = i.counted in
+    let room : c.in-Some.i < length c.loop-i.list = omega arith in
+    let next : enumerate_count c.next.new.self ≡ c.in-Some.i + 1 = omega arith in
+    let below : gates_below c.args.gates held ≡ true = rw s.1 i.below in
+    let differ : gates_differ held ≡ true = rw s.1 i.differ in
+    let push = held_push c.loop-i.list c.in-Some.i (record { gate = get_or c.in-Some.pair.now 0 0; weight = get_or c.in-Some.pair.now 1 0 }) room in
+    record {
+      all = rw next (one_more c.loop-i.list c.in-Some.i _ _ _ room e);
+      below = rw (next, push) (below_push c.args.gates held _ below (omega arith));
+      differ = rw (next, push) (differ_push held _ differ (sym c.if-is_member.ensures));
+      counted = omega arith;
+      two = s.0.0 ∙ i.two;
+      room = search rules;
+    }

@@ -1,6 +1,7 @@
 use Rattle.std.proofs.Common.{◌≡◌, ◌+◌, Bool, true, false, not, length, Ok, Err, sym, refl, ap, ◌∙◌}
 use Rattle.std.proofs.lemmas.Result.{err_from_is_err_and}
 use Rattle.text.specs.Fields.{part}
+use Rattle.text.specs.Readers.{text_of}
 use Rattle.plan.specs.Plans.{plan_field, is_head}
 use Rattle.plan.proofs.Verdicts.{accepted, refused_by, no_fault}
 use Rattle.plan.proofs.Readings.{no_field, bad_first, first_verdict, is_head_kind, begins, refused_begun}
@@ -10,7 +11,8 @@ pub returns-in_err-first : goal.returns-in_err-first
 returns-in_err-first c =
     let e = err_from_is_err_and c.from_residual.result c.from_residual.ensures.1 in
     record {
-      begun = λ text t a.
+      begun = λ a.
+          let text = text_of c.args.reader.now in
           let v = c.in_err-first.ensures.value in
           let is : plan_field text 0 ≡ Err c.in_err-first.field-0.0 = cc in
           refused_begun text _ _ c.from_residual.result (e.1 ∙ ap Err e.2) (no_field text _ is);
@@ -23,7 +25,8 @@ returns-in_err-head c =
     let p = part c.in_ok-first.first in
     let w = refused_by c.in_ok-first.first.place (not c.is_head.result) c.read_head.result false c.in_err-head.field-0.0 c.in_err-head.ensures in
     record {
-      begun = λ text t a.
+      begun = λ a.
+          let text = text_of c.args.reader.now in
           let v = c.in_ok-first.ensures.value in
           let is : plan_field text 0 ≡ Ok (part c.in_ok-first.first) = cc in
           refused_begun text _ _ c.from_residual-in_err-head.result (e.1 ∙ ap Err e.2)
@@ -41,7 +44,8 @@ returns c =
     let a = accepted c.in_ok-first.first.place (not c.is_head.result) c.read_head.result false c.in_ok-head.head c.in_ok-head.ensures in
     let h : is_head c.in_ok-first.first.kind ≡ true = sym c.is_head.ensures ∙ un_not c.is_head.result a.0 in
     record {
-      begun = λ text t z.
+      begun = λ z.
+          let text = text_of c.args.reader.now in
           let v = c.in_ok-first.ensures.value in
           let is : plan_field text 0 ≡ Ok (part c.in_ok-first.first) = cc in
           begins text p c.new.result _ is h
