@@ -1,0 +1,10 @@
+// The cases that the test programs read, and what they tell of a plan.
+#![tactic(auto)]
+
+mod case;
+mod error;
+pub mod hexadecimal;
+pub mod told;
+
+pub use case::Case;
+pub use error::CaseError;

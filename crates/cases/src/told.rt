@@ -1,0 +1,96 @@
+// What is told of a case: lines behind its name.
+use model::rule::{Rule, Total};
+use plan::Plan;
+use plan::read::Loaded;
+use std::fmt;
+
+/// The lines of a text, each behind a name.
+#[derive(Clone, Copy)]
+pub struct Lines<'a> {
+    pub name: &'a str,
+    pub text: &'a str,
+}
+
+impl fmt::Display for Lines<'_> {
+    fn fmt<W: fmt::Write>(&self, f: &mut fmt::Formatter<W>) -> fmt::Result {
+        let name = self.name;
+        for line in self.text.lines() {
+            writeln!(f, "{name}: {line}")?;
+        }
+        Ok(())
+    }
+}
+
+/// A plan in lines, each behind a name: its length, what each gate starts with, and the rules.
+#[derive(Clone, Copy)]
+pub struct Told<'a> {
+    pub name: &'a str,
+    pub loaded: &'a Loaded,
+}
+
+impl fmt::Display for Told<'_> {
+    fn fmt<W: fmt::Write>(&self, f: &mut fmt::Formatter<W>) -> fmt::Result {
+        let name = self.name;
+        let Loaded { plan, read } = self.loaded;
+        writeln!(f, "{name}: {read} bytes")?;
+        for gate in 0..plan.gates() {
+            writeln!(f, "{name}: gate {gate}:{}", Starts { plan, gate })?;
+        }
+        for (number, rule) in plan.rules().iter().enumerate() {
+            writeln!(f, "{name}: rule {number}: {}", ToldRule(rule))?;
+        }
+        Ok(())
+    }
+}
+
+/// The positions that a gate starts with, as runs.
+#[derive(Clone, Copy)]
+struct Starts<'a> {
+    plan: &'a Plan,
+    gate: usize,
+}
+
+impl fmt::Display for Starts<'_> {
+    fn fmt<W: fmt::Write>(&self, f: &mut fmt::Formatter<W>) -> fmt::Result {
+        let starts = |p: usize| self.plan.starts_with(self.gate, p);
+        for p in 0..self.plan.width() {
+            if starts(p) && (p == 0 || !starts(p - 1)) {
+                write!(f, " {p}-")?;
+            }
+            if starts(p) && !starts(p + 1) {
+                write!(f, "{p}")?;
+            }
+        }
+        Ok(())
+    }
+}
+
+/// A rule's kind and its numbers.
+#[derive(Clone, Copy)]
+struct ToldRule<'a>(&'a Rule);
+
+impl fmt::Display for ToldRule<'_> {
+    fn fmt<W: fmt::Write>(&self, f: &mut fmt::Formatter<W>) -> fmt::Result {
+        match *self.0 {
+            Rule::Offset(r) => write!(f, "offset {} {} {}", r.pair.x, r.pair.y, r.c),
+            Rule::Near(r) => write!(f, "near {} {} {}", r.pair.x, r.pair.y, r.d),
+            Rule::NotAbove(r) => write!(f, "not above {} {} {}", r.pair.x, r.pair.y, r.c),
+            Rule::Total(r) => write!(f, "{}", ToldTotal(&r)),
+        }
+    }
+}
+
+/// A Total's bounds, and each member's gate and weight.
+#[derive(Clone, Copy)]
+struct ToldTotal<'a>(&'a Total);
+
+impl fmt::Display for ToldTotal<'_> {
+    fn fmt<W: fmt::Write>(&self, f: &mut fmt::Formatter<W>) -> fmt::Result {
+        let Total { low, high, members } = self.0;
+        write!(f, "total {low} {high}")?;
+        for m in members.list.iter().take(members.count) {
+            write!(f, " {}*{}", m.gate, m.weight)?;
+        }
+        Ok(())
+    }
+}
