@@ -37,9 +37,9 @@ pub parts_bytes-stop : (all : List (List ℕ)) (n : ℕ) (part a : List ℕ) (e 
     → part ≡ get_or all n part → parts_bytes (take n all) ≡ Ok a → part_bytes part ≡ Err e → parts_bytes all ≡ Err e
 parts_bytes-stop all n part a e inside at so_far stop =
     let rest : drop n all ≡ part ∷ drop (n + 1) all =
-        drop_more all n part inside ∙ ap (λ p. p ∷ drop (n + 1) all) (sym at) in
+    drop_more all n part inside ∙ ap (λ p. p ∷ drop (n + 1) all) (sym at) in
     let whole : all ≡ take n all ++ (part ∷ drop (n + 1) all) =
-        sym (take-append-drop n all) ∙ ap (λ r. take n all ++ r) rest in
+    sym (take-append-drop n all) ∙ ap (λ r. take n all ++ r) rest in
     ap parts_bytes whole
     ∙ parts_bytes-append (take n all) (part ∷ drop (n + 1) all)
     ∙ ap (λ r. joined r (joined (part_bytes part) (parts_bytes (drop (n + 1) all)))) so_far

@@ -1,7 +1,8 @@
 // A case: a line with a name and an input.
-ghost use Rattle.std.specs.Prelude.{◌≡◌, ◌⊎◌, IfOk, IfErr, nat_eq, codes};
+ghost use Rattle.std.specs.Prelude.{◌≡◌, ◌⊎◌, IfOk, IfErr, OnOk, All, nat_eq, codes};
 ghost use Rattle.std.specs.List.{starts_with};
-ghost use Rattle.cases.specs.Cases.{case_of};
+ghost use Rattle.std.specs.Str.Lines.{lines};
+ghost use Rattle.cases.specs.Cases.{case_of, IsCase};
 ghost use Rattle.cases.specs.declared.error.CaseError.TheVariants.{OutOfMemory};
 
 use crate::CaseError;
@@ -32,4 +33,19 @@ impl<'a> Case<'a> {
     {
         self.name.starts_with('+')
     }
+}
+
+/// Hands the case of each line to `run`, in order, up to the first error.
+pub fn for_each<E: From<CaseError>, F: FnMut(&Case<'_>) -> Result<(), E>>(
+    heap: Global,
+    text: &str,
+    mut run: F,
+) -> Result<(), E>
+    requires { F.IsAlwaysCallable run }
+    ensures { OnOk result (All IsCase (lines text.now)) }
+{
+    for line in text.lines() {
+        run(&Case::read(heap, line)?)?;
+    }
+    Ok(())
 }

@@ -6,5 +6,5 @@ mod error;
 pub mod hexadecimal;
 pub mod told;
 
-pub use case::Case;
+pub use case::{Case, for_each};
 pub use error::CaseError;
