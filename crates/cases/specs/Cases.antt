@@ -1,5 +1,5 @@
 -- What a line says.
-use Rattle.std.specs.Prelude.{ℕ, nat_lt, if◌then◌else◌, List, length, Result, Ok, Err, IsOk}
+use Rattle.std.specs.Prelude.{ℕ, nat_lt, if◌then◌else◌, List, length, Result, Ok, Err}
 use Rattle.std.specs.List.{before_first, after_first, position_or_len}
 use Rattle.cases.specs.declared.error.CaseError.{CaseError}
 use Rattle.cases.specs.declared.error.CaseError.TheVariants.{NoName}
@@ -16,7 +16,3 @@ case_of line =
     if nat_lt (position_or_len is_space line) (length line)
     then named (before_first is_space line) (bytes_of (after_first is_space line))
     else Err NoName
-
--- the line says a case
-abbrev pub IsCase : List ℕ → Type 0
-IsCase line = IsOk (case_of line)

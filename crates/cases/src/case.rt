@@ -1,8 +1,8 @@
 // A case: a line with a name and an input.
-ghost use Rattle.std.specs.Prelude.{◌≡◌, ◌⊎◌, IfOk, IfErr, OnOk, All, nat_eq, codes};
-ghost use Rattle.std.specs.List.{starts_with};
+ghost use Rattle.std.specs.Prelude.{◌≡◌, ◌⊎◌, IfOk, IfErr, OnOk, nat_eq, codes};
+ghost use Rattle.std.specs.List.{starts_with, FoldsTo};
 ghost use Rattle.std.specs.Str.Lines.{lines};
-ghost use Rattle.cases.specs.Cases.{case_of, IsCase};
+ghost use Rattle.cases.specs.Cases.{case_of};
 ghost use Rattle.cases.specs.declared.error.CaseError.TheVariants.{OutOfMemory};
 
 use crate::CaseError;
@@ -27,25 +27,27 @@ impl<'a> Case<'a> {
         Ok(Case { name, input })
     }
 
-    /// Whether the plan of the input is told as well.
-    pub fn tells_plan(&self) -> bool
+    /// Whether the plan is to be told too: the name begins with a plus.
+    pub(crate) fn asks_for_plan(&self) -> bool
         ensures { result ≡ starts_with nat_eq self.now.name.now (codes "+") }
     {
         self.name.starts_with('+')
     }
 }
 
+ghost use Rattle.cases.specs.Runs.{RunsOn};
+
 /// Hands the case of each line to `run`, in order, up to the first error.
-pub fn for_each<E: From<CaseError>, F: FnMut(&Case<'_>) -> Result<(), E>>(
+pub fn for_each<E: From<CaseError>, F: FnMut(Case<'_>) -> Result<(), E>>(
     heap: Global,
     text: &str,
     mut run: F,
 ) -> Result<(), E>
     requires { F.IsAlwaysCallable run }
-    ensures { OnOk result (All IsCase (lines text.now)) }
+    ensures { OnOk result ((last : F) × FoldsTo (RunsOn F.step) run (lines text.now) last) }
 {
     for line in text.lines() {
-        run(&Case::read(heap, line)?)?;
+        run(Case::read(heap, line)?)?;
     }
     Ok(())
 }

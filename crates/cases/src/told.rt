@@ -1,17 +1,18 @@
 // What is told of a case: lines behind its name.
+use crate::Case;
 use model::rule::{Rule, Total};
 use plan::Plan;
-use plan::read::Loaded;
+use plan::read::read_plan;
 use std::fmt;
 
 /// The lines of a text, each behind a name.
 #[derive(Clone, Copy)]
-pub struct Lines<'a> {
+pub struct NamedLines<'a> {
     pub name: &'a str,
     pub text: &'a str,
 }
 
-impl fmt::Display for Lines<'_> {
+impl fmt::Display for NamedLines<'_> {
     fn fmt<W: fmt::Write>(&self, f: &mut fmt::Formatter<W>) -> fmt::Result {
         let name = self.name;
         for line in self.text.lines() {
@@ -21,18 +22,22 @@ impl fmt::Display for Lines<'_> {
     }
 }
 
-/// A plan in lines, each behind a name: its length, what each gate starts with, and the rules.
+/// The plan that a case's input says, in lines behind the case's name: its length, what each gate starts with, and the rules.
+/// Nothing is told where the case does not ask for it, or where the input is no plan.
 #[derive(Clone, Copy)]
-pub struct Told<'a> {
-    pub name: &'a str,
-    pub loaded: &'a Loaded,
-}
+pub struct ToldPlan<'a>(pub &'a Case<'a>);
 
-impl fmt::Display for Told<'_> {
+impl fmt::Display for ToldPlan<'_> {
     fn fmt<W: fmt::Write>(&self, f: &mut fmt::Formatter<W>) -> fmt::Result {
-        let name = self.name;
-        let Loaded { plan, read } = self.loaded;
-        writeln!(f, "{name}: {read} bytes")?;
+        let Case { name, input } = self.0;
+        if !self.0.asks_for_plan() {
+            return Ok(());
+        }
+        let Ok(loaded) = read_plan(input.as_slice()) else {
+            return Ok(());
+        };
+        writeln!(f, "{name}: {} bytes", loaded.read)?;
+        let plan = &loaded.plan;
         for gate in 0..plan.gates() {
             writeln!(f, "{name}: gate {gate}:{}", Starts { plan, gate })?;
         }
