@@ -3,10 +3,10 @@ use Rattle.std.proofs.Common.{rules, ◌∙◌, ◌≡◌, ℕ, List, Result, Ok
 use Rattle.std.specs.Prelude.{if◌then◌else◌, ◌<◌, ◌^◌, nat_lt, Bool, true, false, ◌&&◌, length}
 use Rattle.std.specs.Result.{result_unwrap_or}
 use Rattle.std.specs.Str.{all_ascii_digits}
-use Rattle.std.specs.Str.Parse.{ParsesUnsigned, IsNumeral, AllDigits, digits_value, without_leading_plus}
+use Rattle.std.specs.Str.Parse.{ParsesUnsigned, IsNumeral, digits_value, without_leading_plus}
 use Rattle.std.proofs.lemmas.Bool.{and_parts}
 use Rattle.std.proofs.lemmas.Str.Parse.{IsNumeralModel, numerals_by_value, tells_all_ascii_digits}
-use Rattle.cases.specs.Hexadecimal.{number_of_digits, number_or_zero}
+use Rattle.cases.specs.Hexadecimal.{number_or_zero}
 
 own : IsNumeralModel (λ ds. all_ascii_digits ds ≡ true) (digits_value 10)
 own = numerals_by_value _ tells_all_ascii_digits

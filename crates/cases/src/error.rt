@@ -33,15 +33,15 @@ impl Error for CaseError {}
 impl From<AllocError> for CaseError {
     ghost from_gives = { λ _ e. e ≡ OutOfMemory };
 
-    fn from(_e: AllocError) -> CaseError {
-        CaseError::OutOfMemory
+    fn from(_e: AllocError) -> Self {
+        Self::OutOfMemory
     }
 }
 
 impl From<FromHexError> for CaseError {
     ghost from_gives = { λ hex e. e ≡ error_of hex };
 
-    fn from(e: FromHexError) -> CaseError {
+    fn from(e: FromHexError) -> Self {
         match e {
             FromHexError::OutOfMemory => CaseError::OutOfMemory,
             _ => CaseError::NotHexadecimal,

@@ -34,7 +34,7 @@ fn add_part(bytes: &mut Vec<u8>, part: &str) -> Result<(), CaseError>
 }
 
 /// The bytes of parts with a space between each two.
-pub fn decode(heap: Global, text: &str) -> Result<Vec<u8>, CaseError>
+pub(crate) fn decode(heap: Global, text: &str) -> Result<Vec<u8>, CaseError>
     ensures ok { IfOk result (λ bytes. bytes_of text.now ≡ Ok bytes.items) }
     ensures err { IfErr result (λ e. (e ≡ OutOfMemory) ⊎ (bytes_of text.now ≡ Err e)) }
 {

@@ -3,7 +3,7 @@
 
 mod case;
 mod error;
-pub mod hexadecimal;
+mod hexadecimal;
 pub mod told;
 
 pub use case::{Case, for_each};
