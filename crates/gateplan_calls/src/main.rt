@@ -12,8 +12,7 @@ const ROOM: u64 = INPUT as u64 + 1;
 
 fn main(rt: HostRuntime) -> io::Result<()> {
     let mut input = Vec::new(rt.alloc());
-    let mut stdin = rt.stdin().take(ROOM);
-    stdin.read_to_end(&mut input)?;
+    rt.stdin().take(ROOM).read_to_end(&mut input)?;
     let mut dom = [0; CELLS];
     let mut map = [0; CELLS];
     let store = Sparse::new(&mut dom, &mut map);

@@ -3,106 +3,22 @@
 // Of a case whose name begins with `+` the plan is told too: what each gate starts with, and the rules.
 #![tactic(auto)]
 
-use anyhow::anyhow;
+use cases::told::{NamedLines, ToldPlan};
+use cases::{Case, for_each};
 use console::output;
-use model::rule::pair::Pair;
-use model::rule::{Rule, Total};
-use plan::Plan;
-use plan::read::read_plan;
+use std::io::Read;
 
-mod hex;
-
-use hex::decode;
-
-/// The positions that a gate starts with, as runs.
-fn tell_starts(rt: &HostRuntime, name: &str, plan: &Plan, gate: usize) -> anyhow::Result<()> {
-    print!(rt; "{name}: gate {gate}:")?;
-    let mut first = None;
-    for p in 0..plan.width() + 1 {
-        match (first, plan.starts_with(gate, p)) {
-            (None, true) => first = Some(p),
-            (Some(from), false) => {
-                let to = p.saturating_sub(1);
-                print!(rt; " {from}-{to}")?;
-                first = None;
-            }
-            _ => {}
-        }
-    }
-    println!(rt; "")?;
-    Ok(())
-}
-
-fn tell_pair(
-    rt: &HostRuntime,
-    start: &str,
-    word: &str,
-    pair: Pair,
-    number: i16,
-) -> anyhow::Result<()> {
-    println!(rt; "{start} {word} {} {} {number}", pair.x, pair.y)?;
-    Ok(())
-}
-
-fn tell_total(rt: &HostRuntime, start: &str, total: &Total) -> anyhow::Result<()> {
-    print!(rt; "{start} total {} {}", total.low, total.high)?;
-    let members = total.members;
-    for m in members.list.iter().take(members.count) {
-        print!(rt; " {}*{}", m.gate, m.weight)?;
-    }
-    println!(rt; "")?;
-    Ok(())
-}
-
-fn tell_rule(rt: &HostRuntime, name: &str, number: usize, rule: Rule) -> anyhow::Result<()> {
-    let line = format!(in rt.alloc(); "{name}: rule {number}:")?;
-    let start = line.as_str();
-    match rule {
-        Rule::Offset(r) => tell_pair(rt, start, "offset", r.pair, r.c),
-        Rule::Near(r) => tell_pair(rt, start, "near", r.pair, i16::from(r.d)),
-        Rule::NotAbove(r) => tell_pair(rt, start, "not above", r.pair, r.c),
-        Rule::Total(r) => tell_total(rt, start, &r),
-    }
-}
-
-fn tell_plan(rt: &HostRuntime, name: &str, input: &[u8]) -> anyhow::Result<()> {
-    if let Ok(loaded) = read_plan(input) {
-        println!(rt; "{name}: {} bytes", loaded.read)?;
-        for gate in 0..loaded.plan.gates() {
-            tell_starts(rt, name, &loaded.plan, gate)?;
-        }
-        for (number, rule) in loaded.plan.rules().iter().enumerate() {
-            tell_rule(rt, name, number, *rule)?;
-        }
-    }
-    Ok(())
-}
-
-fn run_case(rt: &HostRuntime, line: &str) -> anyhow::Result<()> {
-    let Some((name, parts)) = line.split_once(' ') else {
-        return Err(anyhow!("a case has a name and an input"));
-    };
-    let Some(input) = decode(rt.alloc(), parts)? else {
-        return Err(anyhow!("an input is hexadecimal"));
-    };
-    let text = output(rt.alloc(), input.as_slice())?;
-    for shown in text.as_str().lines() {
-        println!(rt; "{name}: {shown}")?;
-    }
-    if name.starts_with('+') {
-        tell_plan(rt, name, input.as_slice())?;
-    }
-    Ok(())
-}
-
-fn run(rt: &HostRuntime) -> anyhow::Result<()> {
-    for line in rt.lines(rt.alloc()) {
-        let line = line?;
-        run_case(rt, line.as_str())?;
-    }
+/// Prints what the program prints on a case's input, and tells the plan.
+fn run_case(rt: &HostRuntime, case: &Case<'_>) -> anyhow::Result<()> {
+    let name = case.name;
+    let text = output(rt.alloc(), case.input.as_slice())?;
+    let text = text.as_str();
+    print!(rt; "{}{}", NamedLines { name, text }, ToldPlan(case))?;
     Ok(())
 }
 
 fn main(rt: HostRuntime) -> anyhow::Result<()> {
-    run(&rt)
+    let mut text = String::new(rt.alloc());
+    rt.stdin().read_to_string(&mut text)?;
+    for_each(rt.alloc(), text.as_str(), |case| run_case(&rt, &case))
 }

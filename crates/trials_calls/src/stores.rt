@@ -8,6 +8,7 @@ use console_calls::output;
 use model::bounds::CELLS;
 use sparse::Sparse;
 use std::alloc::{AllocError, Global};
+use std::fmt;
 use store::Store;
 
 /// The kinds of store, and the layers on them.
@@ -21,64 +22,59 @@ pub enum Kind {
     PiledBits,
 }
 
-impl Kind {
-    pub fn name(self) -> &'static str {
-        match self {
+impl fmt::Display for Kind {
+    fn fmt<W: fmt::Write>(&self, f: &mut fmt::Formatter<W>) -> fmt::Result {
+        let name = match self {
             Kind::Sparse => "sparse",
             Kind::Bits => "bits",
             Kind::KeptSparse => "keeper on sparse",
             Kind::KeptBits => "keeper on bits",
             Kind::PiledSparse => "two keepers on sparse",
             Kind::PiledBits => "two keepers on bits",
-        }
+        };
+        write!(f, "{name}")
     }
 }
 
-/// What is run: the program on an input, or the calls that no input makes, on a store or on planners.
+/// What is run over a store of any kind.
+pub trait Job {
+    fn run<S: Store + Drop>(&self, heap: Global, store: S) -> Result<String, AllocError>;
+}
+
+/// The program on an input.
 #[derive(Clone, Copy)]
-pub enum Job {
-    Program,
-    Store,
-    Planners,
-}
+pub struct Program<'a>(pub &'a [u8]);
 
-fn run<S: Store + Drop>(
-    heap: Global,
-    store: S,
-    job: Job,
-    input: &[u8],
-) -> Result<String, AllocError> {
-    match job {
-        Job::Program => output(heap, store, input),
-        Job::Store => on_store(heap, store),
-        Job::Planners => {
-            let mut dom = [0; CELLS];
-            let mut map = [0; CELLS];
-            on_planners(heap, store, Sparse::new(&mut dom, &mut map))
-        }
+impl Job for Program<'_> {
+    fn run<S: Store + Drop>(&self, heap: Global, store: S) -> Result<String, AllocError> {
+        output(heap, store, self.0)
     }
 }
 
-fn run_kept<S: Store + Drop>(
-    heap: Global,
-    store: S,
-    job: Job,
-    input: &[u8],
-) -> Result<String, AllocError> {
-    run(heap, Bounds::over(store), job, input)
+/// The calls on a store that no input makes.
+#[derive(Clone, Copy)]
+pub struct StoreCalls;
+
+impl Job for StoreCalls {
+    fn run<S: Store + Drop>(&self, heap: Global, store: S) -> Result<String, AllocError> {
+        on_store(heap, store)
+    }
 }
 
-fn run_piled<S: Store + Drop>(
-    heap: Global,
-    store: S,
-    job: Job,
-    input: &[u8],
-) -> Result<String, AllocError> {
-    run(heap, pile(store), job, input)
+/// The calls on a planner that no input makes, beside a planner over a sparse store.
+#[derive(Clone, Copy)]
+pub struct PlannerCalls;
+
+impl Job for PlannerCalls {
+    fn run<S: Store + Drop>(&self, heap: Global, store: S) -> Result<String, AllocError> {
+        let mut dom = [0; CELLS];
+        let mut map = [0; CELLS];
+        on_planners(heap, store, Sparse::new(&mut dom, &mut map))
+    }
 }
 
 /// What comes of the job over a store of the kind.
-pub fn run_over(heap: Global, kind: Kind, job: Job, input: &[u8]) -> Result<String, AllocError> {
+pub fn run_over<J: Job>(heap: Global, kind: Kind, job: &J) -> Result<String, AllocError> {
     let mut dom = [0; CELLS];
     let mut map = [0; CELLS];
     let record = Record {
@@ -87,11 +83,11 @@ pub fn run_over(heap: Global, kind: Kind, job: Job, input: &[u8]) -> Result<Stri
     };
     let mut trail = [record; CELLS];
     match kind {
-        Kind::Sparse => run(heap, Sparse::new(&mut dom, &mut map), job, input),
-        Kind::Bits => run(heap, Bits::new(&mut trail), job, input),
-        Kind::KeptSparse => run_kept(heap, Sparse::new(&mut dom, &mut map), job, input),
-        Kind::KeptBits => run_kept(heap, Bits::new(&mut trail), job, input),
-        Kind::PiledSparse => run_piled(heap, Sparse::new(&mut dom, &mut map), job, input),
-        Kind::PiledBits => run_piled(heap, Bits::new(&mut trail), job, input),
+        Kind::Sparse => job.run(heap, Sparse::new(&mut dom, &mut map)),
+        Kind::Bits => job.run(heap, Bits::new(&mut trail)),
+        Kind::KeptSparse => job.run(heap, Bounds::over(Sparse::new(&mut dom, &mut map))),
+        Kind::KeptBits => job.run(heap, Bounds::over(Bits::new(&mut trail))),
+        Kind::PiledSparse => job.run(heap, pile(Sparse::new(&mut dom, &mut map))),
+        Kind::PiledBits => job.run(heap, pile(Bits::new(&mut trail))),
     }
 }

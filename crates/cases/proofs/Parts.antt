@@ -1,0 +1,46 @@
+-- The bytes of parts, part by part.
+use Rattle.std.proofs.Common.{◌≡◌, ◌<◌, ◌+◌, ℕ, List, [], ◌∷◌, ◌++◌, length, take, drop, get_or, Result, Ok, Err, IsOkAnd, refl, sym, ◌∙◌, ap}
+use Rattle.std.proofs.lemmas.List.{append_assoc, append-nil, drop_more, take-append-drop}
+use Rattle.cases.specs.declared.error.CaseError.{CaseError}
+use Rattle.cases.specs.Hexadecimal.{part_bytes, joined, parts_bytes}
+
+joined-assoc : (a b c : Result (List ℕ) CaseError) → joined (joined a b) c ≡ joined a (joined b c)
+joined-assoc (Ok a) (Ok b) (Ok c) = ap Ok (append_assoc a b c)
+joined-assoc (Ok a) (Ok b) (Err e) = refl
+joined-assoc (Ok a) (Err e) c = refl
+joined-assoc (Err e) b c = refl
+
+joined-none : (a : Result (List ℕ) CaseError) → joined (Ok []) a ≡ a
+joined-none (Ok a) = refl
+joined-none (Err e) = refl
+
+parts_bytes-append : (xs ys : List (List ℕ)) → parts_bytes (xs ++ ys) ≡ joined (parts_bytes xs) (parts_bytes ys)
+parts_bytes-append [] ys = sym (joined-none (parts_bytes ys))
+parts_bytes-append (x ∷ xs) ys =
+    ap (joined (part_bytes x)) (parts_bytes-append xs ys)
+    ∙ sym (joined-assoc (part_bytes x) (parts_bytes xs) (parts_bytes ys))
+
+joined-last : (r : Result (List ℕ) CaseError) (a new : List ℕ) → IsOkAnd r (λ b. new ≡ a ++ b) → joined (Ok a) (joined r (Ok [])) ≡ Ok new
+joined-last (Ok b) a new h = ap (λ bs. Ok (a ++ bs)) (append-nil b) ∙ ap Ok (sym h)
+joined-last (Err e) a new h = absurd h
+
+-- a part behind parts whose bytes are known
+pub parts_bytes-push : (parts : List (List ℕ)) (part a new : List ℕ) → parts_bytes parts ≡ Ok a
+    → IsOkAnd (part_bytes part) (λ b. new ≡ a ++ b) → parts_bytes (parts ++ part ∷ []) ≡ Ok new
+parts_bytes-push parts part a new so_far h =
+    parts_bytes-append parts (part ∷ [])
+    ∙ ap (λ r. joined r (joined (part_bytes part) (Ok []))) so_far
+    ∙ joined-last (part_bytes part) a new h
+
+-- the first part that has no bytes
+pub parts_bytes-stop : (all : List (List ℕ)) (n : ℕ) (part a : List ℕ) (e : CaseError) → n < length all
+    → part ≡ get_or all n part → parts_bytes (take n all) ≡ Ok a → part_bytes part ≡ Err e → parts_bytes all ≡ Err e
+parts_bytes-stop all n part a e inside at so_far stop =
+    let rest : drop n all ≡ part ∷ drop (n + 1) all =
+    drop_more all n part inside ∙ ap (λ p. p ∷ drop (n + 1) all) (sym at) in
+    let whole : all ≡ take n all ++ (part ∷ drop (n + 1) all) =
+    sym (take-append-drop n all) ∙ ap (λ r. take n all ++ r) rest in
+    ap parts_bytes whole
+    ∙ parts_bytes-append (take n all) (part ∷ drop (n + 1) all)
+    ∙ ap (λ r. joined r (joined (part_bytes part) (parts_bytes (drop (n + 1) all)))) so_far
+    ∙ ap (λ r. joined (Ok a) (joined r (parts_bytes (drop (n + 1) all)))) stop

@@ -1,0 +1,4 @@
+pub mod Cases
+pub mod Errors
+pub mod Hexadecimal
+pub mod Runs

@@ -1,0 +1,10 @@
+// The cases that the test programs read, and what they tell of a plan.
+#![tactic(auto)]
+
+mod case;
+mod error;
+mod hexadecimal;
+pub mod told;
+
+pub use case::{Case, for_each};
+pub use error::CaseError;
