@@ -1,4 +1,5 @@
 pub mod Fields
+pub mod Finds
 pub mod Rows
 pub mod Swaps
 pub mod Gathers

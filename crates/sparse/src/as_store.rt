@@ -2,15 +2,15 @@
 ghost use Rattle.std.specs.Prelude.{◌≡◌, min, length};
 ghost use Rattle.model.specs.Bounds.{most_cells};
 ghost use Rattle.store.specs.Meaning.{fresh};
+ghost use Rattle.store.specs.Calls.{Takes};
 ghost use Rattle.sparse.specs.Meanings.{meaning};
 ghost use Rattle.sparse.specs.Soundness.{sound};
 
 use crate::Sparse;
 use crate::cells::Cells;
-use model::bounds::{CELLS, GATES, MARKS, WIDTH};
+use model::bounds::{CELLS, GATES, MARKS};
 use model::refusal::Refusal;
 use store::Store;
-use store::list::all_below;
 
 impl<'a> Sparse<'a> {
     /// A store of no gates yet. Each position of each gate will take one cell of both.
@@ -26,6 +26,17 @@ impl<'a> Sparse<'a> {
             depth: 0,
         }
     }
+
+    /// Puts every position of n gates at its own place, all in the domains, and drops all marks.
+    fn begin(&mut self, n: usize, w: u16)
+        requires { Takes (meaning self.old) n w }
+        ensures { meaning self.new ≡ fresh (meaning self.old).cells n w }
+    {
+        self.cells.fill(w, n * usize::from(w));
+        (self.gates, self.width) = (n, w);
+        self.size = [w; GATES];
+        self.depth = 0;
+    }
 }
 
 impl<'a> Store for Sparse<'a> {
@@ -33,54 +44,28 @@ impl<'a> Store for Sparse<'a> {
 
     ghost sound = { sound };
 
-    ghost good = { λ _. Unit {0} };
-
     fn holds(&self) -> usize {
         self.cells.dom.len().min(self.cells.map.len()).min(CELLS)
     }
 
     fn reset(&mut self, n: usize, w: u16) -> Result<(), Refusal> {
-        if n == 0 || n > GATES || w == 0 || w as usize > WIDTH {
-            return Err(Refusal::NoRoom);
-        }
-        let cells = n * w as usize;
-        if cells > self.holds() {
-            return Err(Refusal::NoRoom);
-        }
-        self.cells.fill(w, cells);
-        (self.gates, self.width) = (n, w);
-        self.size = [w; GATES];
-        self.depth = 0;
+        self.check_size(n, w)?;
+        self.begin(n, w);
         Ok(())
     }
 
     fn strike(&mut self, g: usize, p: u16) -> Result<u16, Refusal> {
-        if g >= self.gates {
-            return Err(Refusal::NoGate);
-        }
-        if p >= self.width {
-            return Err(Refusal::NoPosition);
-        }
+        self.check_position(g, p)?;
         Ok(self.take_out(g, p))
     }
 
     fn bind(&mut self, g: usize, p: u16) -> Result<u16, Refusal> {
-        if g >= self.gates {
-            return Err(Refusal::NoGate);
-        }
-        if p >= self.width {
-            return Err(Refusal::NoPosition);
-        }
+        self.check_position(g, p)?;
         Ok(self.bind_to(g, p))
     }
 
     fn keep(&mut self, g: usize, list: &[u16]) -> Result<u16, Refusal> {
-        if g >= self.gates {
-            return Err(Refusal::NoGate);
-        }
-        if !all_below(list, self.width) {
-            return Err(Refusal::NoPosition);
-        }
+        self.check_list(g, list)?;
         Ok(self.keep_listed(g, list))
     }
 
@@ -107,52 +92,27 @@ impl<'a> Store for Sparse<'a> {
     }
 
     fn contains(&self, g: usize, p: u16) -> Result<bool, Refusal> {
-        if g >= self.gates {
-            return Err(Refusal::NoGate);
-        }
-        if p >= self.width {
-            return Err(Refusal::NoPosition);
-        }
+        self.check_position(g, p)?;
         Ok(self.has(g, p))
     }
 
     fn count(&self, g: usize) -> Result<u16, Refusal> {
-        if g >= self.gates {
-            return Err(Refusal::NoGate);
-        }
+        self.check_gate(g)?;
         Ok(self.left(g))
     }
 
     fn lowest(&self, g: usize) -> Result<Option<u16>, Refusal> {
-        if g >= self.gates {
-            return Err(Refusal::NoGate);
-        }
-        let base = g * self.width as usize;
-        for p in 0..self.width {
-            if self.cells.map[base + p as usize] < self.size[g] {
-                return Ok(Some(p));
-            }
-        }
-        Ok(None)
+        self.check_gate(g)?;
+        Ok(self.positions().find(|&p| self.has(g, p)))
     }
 
     fn highest(&self, g: usize) -> Result<Option<u16>, Refusal> {
-        if g >= self.gates {
-            return Err(Refusal::NoGate);
-        }
-        let base = g * self.width as usize;
-        for p in (0..self.width).rev() {
-            if self.cells.map[base + p as usize] < self.size[g] {
-                return Ok(Some(p));
-            }
-        }
-        Ok(None)
+        self.check_gate(g)?;
+        Ok(self.positions().rev().find(|&p| self.has(g, p)))
     }
 
     fn gone(&self, g: usize, k: usize) -> Result<Option<u16>, Refusal> {
-        if g >= self.gates {
-            return Err(Refusal::NoGate);
-        }
+        self.check_gate(g)?;
         Ok(self.gone_at(g, k))
     }
 }

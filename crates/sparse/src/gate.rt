@@ -5,6 +5,7 @@ ghost use Rattle.store.specs.Calls.{Strike, Bind, Keep, Contains, Count, Gone};
 ghost use Rattle.sparse.specs.Meanings.{meaning};
 
 use crate::Sparse;
+use std::ops::Range;
 
 impl<'a> Sparse<'a> {
     /// Moves the position out of the domain, where it was in it; answers 1 then, else 0.
@@ -53,6 +54,14 @@ impl<'a> Sparse<'a> {
         let front = self.cells.gather(g * w as usize, w, count, list);
         self.size[g] = front;
         front
+    }
+
+    /// Every position of a gate, ascending.
+    pub(super) fn positions(&self) -> Range<u16>
+        ensures first { result.start ≡ 0 }
+        ensures end { result.end ≡ self.now.width }
+    {
+        0..self.width
     }
 
     /// Whether the position stands among the first `size[g]` places.
