@@ -1,3 +1,4 @@
+pub mod Spans
 pub mod Fields
 pub mod Finds
 pub mod Rows

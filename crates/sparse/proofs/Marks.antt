@@ -9,7 +9,7 @@ use Rattle.store.proofs.Meanings.{same_meaning}
 use Rattle.sparse.specs.Arrays.{cell, row, gone_at, mark_of, marks_of}
 use Rattle.sparse.specs.Meanings.{drawn, meaning}
 use Rattle.sparse.specs.Soundness.{gone_in, gone_out, length_gone, mark_in, mark_out}
-use Rattle.sparse.specs.Spans.{take_span}
+use Rattle.sparse.proofs.Spans.{take_span}
 use Rattle.sparse.specs.declared.Sparse.{Sparse}
 use Rattle.sparse.proofs.Fields.{Fields, fields}
 

@@ -12,7 +12,7 @@ use Rattle.sparse.specs.Arrays.{cell, Perm}
 use Rattle.sparse.specs.Meanings.{drawn, meaning}
 use Rattle.sparse.specs.declared.Sparse.{Sparse}
 use Rattle.sparse.specs.Soundness.{gone_in, gone_out}
-use Rattle.sparse.specs.Spans.{span_none}
+use Rattle.sparse.proofs.Spans.{span_none}
 use Rattle.sparse.proofs.Fields.{Fields, fields}
 use Rattle.sparse.proofs.Rows.{perms_from}
 

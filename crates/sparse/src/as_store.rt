@@ -10,6 +10,7 @@ use crate::Sparse;
 use crate::cells::Cells;
 use model::bounds::{CELLS, GATES, MARKS};
 use model::refusal::Refusal;
+use std::ops::Range;
 use store::Store;
 
 impl<'a> Sparse<'a> {
@@ -36,6 +37,14 @@ impl<'a> Sparse<'a> {
         (self.gates, self.width) = (n, w);
         self.size = [w; GATES];
         self.depth = 0;
+    }
+
+    /// Every position of a gate, ascending.
+    fn positions(&self) -> Range<u16>
+        ensures first { result.start ≡ 0 }
+        ensures end { result.end ≡ self.now.width }
+    {
+        0..self.width
     }
 }
 
@@ -96,9 +105,10 @@ impl<'a> Store for Sparse<'a> {
         Ok(self.has(g, p))
     }
 
+    #[tactic(auto, using(crate::proofs::Calls::left_now))]
     fn count(&self, g: usize) -> Result<u16, Refusal> {
         self.check_gate(g)?;
-        Ok(self.left(g))
+        Ok(self.size[g])
     }
 
     fn lowest(&self, g: usize) -> Result<Option<u16>, Refusal> {
