@@ -4,6 +4,8 @@ ghost use Rattle.model.specs.Planners.{all_below};
 ghost use Rattle.sparse.specs.Arrays.{Perm, from, dom_swapped, map_swapped, Gathered};
 
 /// A gate's cells in both begin at its base, one for each of its positions.
+// kept: the two stay apart, since the caller lends them as two slices.
+// kept: the base is a parameter: a struct of one gate's parts of both would be two more loans at each call, and spare one sum at an index.
 #[derive(Drop)]
 pub struct Cells<'a> {
     pub dom: &'a mut [u16],
@@ -25,7 +27,7 @@ fn ramp(s: &mut [u16], w: u16, cells: usize)
 fn waits(front: u16, at: u16, count: u16) -> bool
     ensures { result ≡ (nat_le front at && nat_lt at count) }
 {
-    front <= at && at < count
+    (front..count).contains(&at)
 }
 
 impl<'a> Cells<'a> {

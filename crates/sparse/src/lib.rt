@@ -19,6 +19,7 @@ pub struct Sparse<'a> {
     gates: usize,
     width: u16,
     size: [u16; GATES],
+    // kept: a table and how much of it is used: the memory is fixed, and a mark needs no loan of the caller's.
     marks: [[u16; GATES]; MARKS],
     depth: usize,
     ghost room: { Room cells.dom.now cells.map.now gates width },

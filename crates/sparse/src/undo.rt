@@ -25,6 +25,7 @@ impl<'a> Sparse<'a> {
     }
 
     /// Adds a mark; answers how many there are then.
+    #[tactic(auto, using(crate::proofs::Marks::save_means, crate::specs::Soundness::length_marks))]
     pub(super) fn push_mark(&mut self) -> u16
         requires { self.old.depth < most_marks }
         ensures { Save (meaning self.old) (Ok result) (meaning self.new) }
@@ -36,6 +37,7 @@ impl<'a> Sparse<'a> {
     }
 
     /// Goes back to the newest mark and removes it; answers how many there are then.
+    #[tactic(auto, using(crate::proofs::Marks::restore_means, crate::specs::Soundness::length_marks))]
     pub(super) fn pop_mark(&mut self) -> u16
         requires { 0 < self.old.depth }
         ensures { Restore (meaning self.old) (Ok result) (meaning self.new) }

@@ -1,5 +1,4 @@
 use Rattle.std.proofs.Common.{◌≡◌, ℕ, ◌+◌, ◌&&◌, ltb, leb, get_or, take, sym, ap, ◌∙◌, subst, arith}
-use Rattle.std.proofs.lemmas.List.{take_all}
 use Rattle.std.proofs.lemmas.Bool.{and_from, and_parts, both_ways, leb-true, le-leb, ltb-true, lt-ltb}
 use Rattle.model.specs.Planners.{all_below}
 use Rattle.store.proofs.Members.{true_is, all_below_at}
@@ -8,12 +7,6 @@ use Rattle.sparse.specs.declared.cells.Cells.{Cells}
 use Rattle.sparse.proofs.Gathers.{gather_skip, gather_swap}
 use Rattle.sparse.proofs.cells.Cells.gather.Goals as goal
 use Rattle.sparse.proofs.cells.Cells.gather.Goals.{then-waits, else-waits}
-
-pub bounds-self-base : goal.bounds-self-base
-bounds-self-base c =
-    let xs = c.args.list.now in
-    let h = all_below_at c.args.w xs (true_is (all_below c.args.w xs) c.requires.within) c.loop-p.p-index c.loop-p-test.true in
-    omega (arith, c.loop-p.invariant.moved.map_long, c.requires.map_room)
 
 pub loop-p-preserved : goal.loop-p-preserved
 loop-p-preserved c =
@@ -43,9 +36,3 @@ loop-p-preserved c =
           (gather_skip c.args.base c.args.w n xs i front d₀ m₀ d m hi (hp i hi) inv
           (λ a b. both_ways (leb front at && ltb at n) (sym c.waits.ensures ∙ w.if-waits.false) (and_from (leb front at) (ltb at n) (le-leb front at (omega arith)) (lt-ltb at n (omega arith))))))
     ]
-
-pub returns : goal.returns
-returns c =
-    let xs = c.args.list.now in
-    subst (λ l. Gathered c.args.base c.args.w c.args.count l c.loop-p.front c.args.self.now.dom.now c.args.self.now.map.now c.loop-p.self.dom.now c.loop-p.self.map.now)
-    (take_all c.loop-p.p-index xs c.loop-p-test.false) c.loop-p.invariant
