@@ -1,5 +1,5 @@
 -- What strike, bind and keep make of a store.
-use Rattle.std.proofs.Common.{◌≡◌, ℕ, ◌+◌, ◌*◌, ◌<◌, ◌≤◌, Bool, true, false, not, eqb, ltb, List, length, get_or, set, Ok, sym, refl, ap, ◌∙◌, subst, ⊎_elim, arith}
+use Rattle.std.proofs.Common.{◌≡◌, ℕ, ◌+◌, ◌-◌, ◌*◌, ◌<◌, ◌≤◌, Bool, true, false, not, eqb, ltb, List, length, get_or, set, Ok, sym, refl, ap, ◌∙◌, subst, ⊎_elim, arith}
 use Rattle.std.proofs.lemmas.List.{length-set, get_or-set_same}
 use Rattle.std.proofs.lemmas.Bool.{cases_lt, lt-ltb, le-ltb, eq-eqb, eqb-true}
 use Rattle.model.specs.Families.{has}
@@ -8,7 +8,8 @@ use Rattle.store.specs.Meaning.{Meaning, appended, left}
 use Rattle.store.proofs.Meanings.{same_meaning}
 use Rattle.sparse.specs.Arrays.{from, cell, span, gone_at, dom_swapped, map_swapped, Moved}
 use Rattle.sparse.specs.Meanings.{drawn, meaning}
-use Rattle.sparse.specs.Soundness.{gone_in, perm}
+use Rattle.sparse.specs.Soundness.{gone_in, length_gone, perm}
+use Rattle.sparse.specs.Spans.{get_or_span}
 use Rattle.sparse.specs.declared.Sparse.{Sparse}
 use Rattle.sparse.proofs.Fields.{Fields, fields}
 use Rattle.sparse.proofs.Gates.{is_gone, is_open, gone_shrunk, set_falls, leaving, left_of}
@@ -63,6 +64,12 @@ module _ (s : Sparse) where
 
   pub left_now : (g : ℕ) → g < s.gates → get_or s.size g 0 ≡ left (meaning s) g
   left_now g hg = left_of (meaning s) g (get_or s.size g 0) (D g) (M g) (perm s g hg) hg (s.sizes.1 g hg) (gone_in s.gates s.width dom s.size g hg)
+
+  pub length_of_gone : (g : ℕ) → g < s.gates → length ((meaning s).gone g) ≡ s.width - get_or s.size g 0
+  length_of_gone = length_gone s.gates s.width dom s.size
+
+  pub gone_from_last : (g k : ℕ) → g < s.gates → k < s.width - get_or s.size g 0 → get_or ((meaning s).gone g) k 0 ≡ D g (s.width - 1 - k)
+  gone_from_last g k hg hk = ap (λ xs. get_or xs k 0) (gone_in s.gates s.width dom s.size g hg) ∙ get_or_span (D g) (get_or s.size g 0) s.width k hk
 
   -- gate g arranged anew, and c' of its positions kept
   module _ (g : ℕ) (hg : g < s.gates) (dom' map' : List ℕ) (x : Moved (g * s.width) s.width (get_or s.size g 0) dom map dom' map') (c' : ℕ) (le : c' ≤ get_or s.size g 0) where

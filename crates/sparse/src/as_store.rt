@@ -78,18 +78,24 @@ impl<'a> Store for Sparse<'a> {
         Ok(self.keep_listed(g, list))
     }
 
+    #[tactic(auto, using(crate::proofs::Marks::save_means, crate::specs::Soundness::length_marks))]
     fn save(&mut self) -> Result<u16, Refusal> {
         if self.depth >= MARKS {
             return Err(Refusal::TooManySaves);
         }
-        Ok(self.push_mark())
+        self.marks[self.depth] = self.size;
+        self.depth += 1;
+        Ok(self.depth as u16)
     }
 
+    #[tactic(auto, using(crate::proofs::Marks::restore_means, crate::specs::Soundness::length_marks))]
     fn restore(&mut self) -> Result<u16, Refusal> {
         if self.depth == 0 {
             return Err(Refusal::NoSave);
         }
-        Ok(self.pop_mark())
+        self.depth -= 1;
+        self.size = self.marks[self.depth];
+        Ok(self.depth as u16)
     }
 
     fn gates(&self) -> usize {
@@ -121,8 +127,14 @@ impl<'a> Store for Sparse<'a> {
         Ok(self.positions().rev().find(|&p| self.has(g, p)))
     }
 
+    #[tactic(auto, using(crate::proofs::Calls::length_of_gone, crate::proofs::Calls::gone_from_last))]
     fn gone(&self, g: usize, k: usize) -> Result<Option<u16>, Refusal> {
         self.check_gate(g)?;
-        Ok(self.gone_at(g, k))
+        // What has left stands behind the domain, the oldest last.
+        let w = usize::from(self.width);
+        if k >= w - usize::from(self.size[g]) {
+            return Ok(None);
+        }
+        Ok(Some(self.cells.dom[self.base(g) + (w - 1 - k)]))
     }
 }

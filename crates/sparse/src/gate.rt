@@ -1,7 +1,7 @@
 // The work of each call on a gate, once the gate and the position are known to exist.
 ghost use Rattle.std.specs.Prelude.{◌≡◌, ◌*◌, ◌<◌, true, Ok};
 ghost use Rattle.model.specs.Planners.{all_below};
-ghost use Rattle.store.specs.Calls.{Strike, Bind, Keep, Contains, Gone};
+ghost use Rattle.store.specs.Calls.{Strike, Bind, Keep, Contains};
 ghost use Rattle.sparse.specs.Arrays.{cell};
 ghost use Rattle.sparse.specs.Meanings.{meaning};
 
@@ -10,7 +10,7 @@ use crate::Sparse;
 // kept: the gate and the position stand in the requires of each: a value that bears them out would hold the store's loan and read no plainer.
 impl<'a> Sparse<'a> {
     /// Where the cells of the gate begin.
-    fn base(&self, g: usize) -> usize
+    pub(super) fn base(&self, g: usize) -> usize
         requires { g < self.now.gates }
         ensures { result ≡ g * self.now.width }
     {
@@ -82,17 +82,5 @@ impl<'a> Sparse<'a> {
         ensures { Contains (meaning self.now) g p (Ok result) }
     {
         self.place(g, p) < self.size[g]
-    }
-
-    /// What stands at the k-th place from the last down, where that is none of the domain.
-    pub(super) fn gone_at(&self, g: usize, k: usize) -> Option<u16>
-        requires gate { g < self.now.gates }
-        ensures { Gone (meaning self.now) g k (Ok result) }
-    {
-        let w = usize::from(self.width);
-        if k >= w - usize::from(self.size[g]) {
-            return None;
-        }
-        Some(self.cells.dom[self.base(g) + (w - 1 - k)])
     }
 }

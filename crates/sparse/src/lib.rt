@@ -9,7 +9,6 @@ use model::bounds::{GATES, MARKS};
 pub mod as_store;
 mod cells;
 mod gate;
-mod undo;
 
 /// The first `size[g]` places of gate g are its domain; the others hold what has left it, the newest first.
 /// What has left stays where it is, so a mark keeps only the sizes.
