@@ -1,14 +1,15 @@
 -- What strike, bind and keep make of a store.
-use Rattle.std.proofs.Common.{◌≡◌, ℕ, ◌+◌, ◌*◌, ◌<◌, ◌≤◌, Bool, true, false, not, eqb, ltb, List, length, get_or, set, Ok, sym, refl, ap, ◌∙◌, ⊎_elim, arith}
+use Rattle.std.proofs.Common.{◌≡◌, ℕ, ◌+◌, ◌-◌, ◌*◌, ◌<◌, ◌≤◌, Bool, true, false, not, eqb, ltb, List, length, get_or, set, Ok, sym, refl, ap, ◌∙◌, subst, ⊎_elim, arith}
 use Rattle.std.proofs.lemmas.List.{length-set, get_or-set_same}
 use Rattle.std.proofs.lemmas.Bool.{cases_lt, lt-ltb, le-ltb, eq-eqb, eqb-true}
 use Rattle.model.specs.Families.{has}
 use Rattle.store.specs.Calls.{Kept}
 use Rattle.store.specs.Meaning.{Meaning, appended, left}
 use Rattle.store.proofs.Meanings.{same_meaning}
-use Rattle.sparse.specs.Arrays.{cell, span, gone_at, dom_swapped, map_swapped, Moved}
+use Rattle.sparse.specs.Arrays.{from, cell, span, gone_at, dom_swapped, map_swapped, Moved}
 use Rattle.sparse.specs.Meanings.{drawn, meaning}
-use Rattle.sparse.specs.Soundness.{gone_in, perm}
+use Rattle.sparse.specs.Soundness.{gone_in, length_gone, perm}
+use Rattle.sparse.specs.Spans.{get_or_span}
 use Rattle.sparse.specs.declared.Sparse.{Sparse}
 use Rattle.sparse.proofs.Fields.{Fields, fields}
 use Rattle.sparse.proofs.Gates.{is_gone, is_open, gone_shrunk, set_falls, leaving, left_of}
@@ -64,6 +65,12 @@ module _ (s : Sparse) where
   pub left_now : (g : ℕ) → g < s.gates → get_or s.size g 0 ≡ left (meaning s) g
   left_now g hg = left_of (meaning s) g (get_or s.size g 0) (D g) (M g) (perm s g hg) hg (s.sizes.1 g hg) (gone_in s.gates s.width dom s.size g hg)
 
+  pub length_of_gone : (g : ℕ) → g < s.gates → length ((meaning s).gone g) ≡ s.width - get_or s.size g 0
+  length_of_gone = length_gone s.gates s.width dom s.size
+
+  pub gone_from_last : (g k : ℕ) → g < s.gates → k < s.width - get_or s.size g 0 → get_or ((meaning s).gone g) k 0 ≡ D g (s.width - 1 - k)
+  gone_from_last g k hg hk = ap (λ xs. get_or xs k 0) (gone_in s.gates s.width dom s.size g hg) ∙ get_or_span (D g) (get_or s.size g 0) s.width k hk
+
   -- gate g arranged anew, and c' of its positions kept
   module _ (g : ℕ) (hg : g < s.gates) (dom' map' : List ℕ) (x : Moved (g * s.width) s.width (get_or s.size g 0) dom map dom' map') (c' : ℕ) (le : c' ≤ get_or s.size g 0) where
     abbrev m' : Meaning
@@ -112,41 +119,39 @@ module _ (s : Sparse) where
       (λ q b h e. let j : M g q ≡ M g p = ap (M g) (eqb-true q p e) in absurd (omega arith))
       (λ q b h. absurd (omega arith))
 
-  -- the place of p in gate g, and b, exchanged
-  module _ (g p b : ℕ) (hg : g < s.gates) (hp : p < s.width) (la : M g p < get_or s.size g 0) (lb : b < get_or s.size g 0) where
-    abbrev a : ℕ
-    a = M g p
+  -- the position at a place of gate g, whose cells begin at base
+  pub position_room : (g k base : ℕ) → g < s.gates → k < s.width → base ≡ g * s.width → base + from dom base k < length map
+  position_room g k base hg hk begins = subst (λ x. x + from dom x k < length map) (sym begins) (in_map g (D g k) hg ((perm s g hg).0 k hk).0)
 
+  -- place a of gate g, where p stands, and place b exchanged
+  module _ (g p b base a : ℕ) (hg : g < s.gates) (hp : p < s.width) (begins : base ≡ g * s.width) (stands : a ≡ M g p) (la : a < get_or s.size g 0) (lb : b < get_or s.size g 0)
+      (dom' map' : List ℕ) (e : dom' ≡ dom_swapped dom base a b) (f : map' ≡ map_swapped dom map base a b) where
     ha : a < s.width
-    ha = place g p hg hp
+    ha = omega (arith, place g p hg hp)
 
     hb : b < s.width
     hb = omega (arith, s.sizes.1 g hg)
 
-    pub swap_needs : record {
-      dom_room : (g * s.width + a < length dom) × (g * s.width + b < length dom);
-      map_room : (g * s.width + D g a < length map) × (g * s.width + D g b < length map);
-    }
-    swap_needs = record {
-      dom_room = (in_dom g a hg ha, in_dom g b hg hb);
-      map_room = (in_map g (D g a) hg ((perm s g hg).0 a ha).0, in_map g (D g b) hg ((perm s g hg).0 b hb).0);
-    }
+    e' : dom' ≡ dom_swapped dom (g * s.width) a b
+    e' = e ∙ ap (λ x. dom_swapped dom x a b) begins
 
-    module _ (dom' map' : List ℕ) (e : dom' ≡ dom_swapped dom (g * s.width) a b) (f : map' ≡ map_swapped dom map (g * s.width) a b) where
-      pub swapped : Moved (g * s.width) s.width (get_or s.size g 0) dom map dom' map'
-      swapped = swap_moved (g * s.width) s.width a b dom map dom' map' (perm s g hg) ha hb (row_dom g hg) (row_map g hg) e f (get_or s.size g 0) la lb
+    f' : map' ≡ map_swapped dom map (g * s.width) a b
+    f' = f ∙ ap (λ x. map_swapped dom map x a b) begins
 
-      pub swap_at : cell dom' s.width g b ≡ p
-      swap_at = at_b (g * s.width) s.width a b dom map dom' map' (perm s g hg) ha hb (row_dom g hg) (row_map g hg) e f ∙ ((perm s g hg).1 p hp).1
+    pub swapped : Moved (g * s.width) s.width (get_or s.size g 0) dom map dom' map'
+    swapped = swap_moved (g * s.width) s.width a b dom map dom' map' (perm s g hg) ha hb (row_dom g hg) (row_map g hg) e' f' (get_or s.size g 0) la lb
 
-      -- p alone kept, at place 0
-      pub bind_kept : b ≡ 0 → Kept (meaning s) g (λ q. eqb q p) (Ok 1) (drawn dom' map' s.gates s.width (set s.size g 1) s.marks s.depth)
-      bind_kept z =
-          let P' = swapped.perm in
-          let D' = cell dom' s.width g in
-          let M' = cell map' s.width g in
-          let h0 : D' 0 ≡ p = ap D' (sym z) ∙ swap_at in
-          let m0 : M' p ≡ 0 = ap M' (sym h0) ∙ (P'.0 0 (omega arith)).1 in
-          moved_kept g hg dom' map' swapped 1 (omega arith) (λ q. eqb q p)
-          (λ q b h e. let i : q ≡ p = eqb-true q p e in let j : M' q ≡ 0 = ap M' i ∙ m0 in omega arith)
-          (λ q b h. let j : M' q ≡ 0 = omega arith in eq-eqb q p (sym (P'.1 q b).1 ∙ ap D' j ∙ h0))
+    pub swap_at : cell dom' s.width g b ≡ p
+    swap_at = at_b (g * s.width) s.width a b dom map dom' map' (perm s g hg) ha hb (row_dom g hg) (row_map g hg) e' f' ∙ ap (D g) stands ∙ ((perm s g hg).1 p hp).1
+
+    -- p alone kept, at place 0
+    pub bind_kept : b ≡ 0 → Kept (meaning s) g (λ q. eqb q p) (Ok 1) (drawn dom' map' s.gates s.width (set s.size g 1) s.marks s.depth)
+    bind_kept z =
+        let P' = swapped.perm in
+        let D' = cell dom' s.width g in
+        let M' = cell map' s.width g in
+        let h0 : D' 0 ≡ p = ap D' (sym z) ∙ swap_at in
+        let m0 : M' p ≡ 0 = ap M' (sym h0) ∙ (P'.0 0 (omega arith)).1 in
+        moved_kept g hg dom' map' swapped 1 (omega arith) (λ q. eqb q p)
+        (λ q b h e. let i : q ≡ p = eqb-true q p e in let j : M' q ≡ 0 = ap M' i ∙ m0 in omega arith)
+        (λ q b h. let j : M' q ≡ 0 = omega arith in eq-eqb q p (sym (P'.1 q b).1 ∙ ap D' j ∙ h0))

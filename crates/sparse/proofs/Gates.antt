@@ -11,7 +11,8 @@ use Rattle.store.proofs.Meanings.{at_same, at_other}
 use Rattle.sparse.specs.Arrays.{cell, span, Perm, gone_at}
 use Rattle.sparse.specs.Meanings.{gone_of}
 use Rattle.sparse.specs.Soundness.{gone_in, gone_out}
-use Rattle.sparse.specs.Spans.{length_span, span_same, span_split, span_has, span_where, span_lacks, span_once, span_below}
+use Rattle.sparse.specs.Spans.{length_span, span_once, span_below}
+use Rattle.sparse.proofs.Spans.{span_same, span_split, span_has, span_where, span_lacks}
 
 -- open exactly where the place is below the count
 module _ (n w : ℕ) (dom map size : List ℕ) (g : ℕ) (hg : g < n) (perm : Perm w (cell dom w g) (cell map w g)) (p : ℕ) (hp : p < w) where

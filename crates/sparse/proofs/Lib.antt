@@ -1,4 +1,6 @@
+pub mod Spans
 pub mod Fields
+pub mod Finds
 pub mod Rows
 pub mod Swaps
 pub mod Gathers

@@ -1,17 +1,16 @@
 -- What save and restore make of a store.
-use Rattle.std.proofs.Common.{◌≡◌, ℕ, zero, suc, ◌+◌, ◌-◌, ◌<◌, ◌≤◌, List, [], ◌∷◌, length, get_or, take, set, sym, refl, ap, ◌∙◌, subst, ⊎_elim, add-one, arith}
+use Rattle.std.proofs.Common.{◌≡◌, ℕ, zero, suc, ◌+◌, ◌-◌, ◌<◌, ◌≤◌, List, [], ◌∷◌, length, get_or, take, set, sym, refl, ap, ◌∙◌, ⊎_elim, add-one, arith}
 use mathlib.Core.Path.{fun_ext}
-use Rattle.std.proofs.lemmas.List.{length-set, get_or-set_same, get_or-set_other}
+use Rattle.std.proofs.lemmas.List.{get_or-set_same, get_or-set_other}
 use Rattle.std.proofs.lemmas.Bool.{cases_lt}
-use Rattle.model.specs.Bounds.{most_gates, most_marks}
+use Rattle.model.specs.Bounds.{most_marks}
 use Rattle.store.specs.Meaning.{saved, restored, cut}
 use Rattle.store.proofs.Meanings.{same_meaning}
 use Rattle.sparse.specs.Arrays.{cell, row, gone_at, mark_of, marks_of}
 use Rattle.sparse.specs.Meanings.{drawn, meaning}
 use Rattle.sparse.specs.Soundness.{gone_in, gone_out, length_gone, mark_in, mark_out}
-use Rattle.sparse.specs.Spans.{take_span}
+use Rattle.sparse.proofs.Spans.{take_span}
 use Rattle.sparse.specs.declared.Sparse.{Sparse}
-use Rattle.sparse.proofs.Fields.{Fields, fields}
 
 marks_set : (n w : ℕ) (marks : List (List ℕ)) (i : ℕ) (r : List ℕ) (d : ℕ) → d ≤ i → marks_of n w (set marks i r) d ≡ marks_of n w marks d
 marks_set n w marks i r zero h = refl
@@ -35,36 +34,6 @@ module _ (s : Sparse) where
     row_new : row (set s.marks s.depth r) s.depth ≡ s.size
     row_new = get_or-set_same s.marks s.depth r [] (omega (arith, s.table.1)) ∙ is
 
-    row_old : (d : ℕ) → d < s.depth → row (set s.marks s.depth r) d ≡ row s.marks d
-    row_old d h = get_or-set_other s.marks s.depth d r [] (λ e. omega arith)
-
-    -- of each mark, old or new
-    each : (P : ℕ → List ℕ → Type 0) → ((d : ℕ) → d < s.depth → P d (row s.marks d)) → P s.depth s.size → (d : ℕ) → d < s.depth + 1 → P d (row (set s.marks s.depth r) d)
-    each P old new d h =
-        ⊎_elim
-        (λ (b : d < s.depth). subst (P d) (sym (row_old d b)) (old d b))
-        (λ (b : s.depth ≤ d). let e : d ≡ s.depth = omega arith in
-        let G : ℕ → Type 0 = λ x. P x (row (set s.marks s.depth r) x) in
-        subst G (sym e) (subst (P s.depth) (sym row_new) new))
-        (cases_lt d s.depth)
-
-    pub save_fields : Fields dom map s.gates s.width s.size (set s.marks s.depth r) (s.depth + 1)
-    save_fields =
-        fields dom map s.gates s.width s.size (set s.marks s.depth r) (s.depth + 1) s.room s.perms s.sizes
-        (omega arith, length-set s.marks s.depth r ∙ s.table.1, each (λ d r. length r ≡ most_gates) s.table.2 s.sizes.0)
-        (λ g d hg h. let o : d < s.depth = omega arith in
-        let old = row_old d o in
-        each (λ e x. e ≡ suc d → get_or x g 0 ≤ get_or (row (set s.marks s.depth r) d) g 0)
-        (λ e l q. let G : List ℕ → Type 0 = λ y. get_or (row s.marks e) g 0 ≤ get_or y g 0 in
-        let G' : ℕ → Type 0 = λ z. get_or (row s.marks z) g 0 ≤ get_or (row s.marks d) g 0 in
-        subst G (sym old) (subst G' (sym q) (s.fall g d hg (omega arith))))
-        (λ q. let G : List ℕ → Type 0 = λ y. get_or s.size g 0 ≤ get_or y g 0 in subst G (sym old) (s.since g d hg (sym q)))
-        (suc d) h refl)
-        (λ g d hg q. let e : d ≡ s.depth = omega arith in
-        let G : ℕ → Type 0 = λ x. get_or s.size g 0 ≤ get_or (row (set s.marks s.depth r) x) g 0 in
-        subst G (sym e) (omega (arith, ap (λ x. get_or x g 0) row_new)))
-        (λ g d hg h. each (λ e x. get_or x g 0 ≤ s.width) (λ e l. s.within g e hg l) (s.sizes.1 g hg) d h)
-
     save_mark : mark_of s.gates s.width s.size ≡ (λ h. length ((meaning s).gone h))
     save_mark = fun_ext (λ h. ⊎_elim
         (λ (b : h < s.gates). mark_in s.gates s.width s.size h b ∙ sym (length_gone s.gates s.width dom s.size h b))
@@ -83,17 +52,6 @@ module _ (s : Sparse) where
 
   -- back to the newest mark
   module _ (some : 0 < s.depth) (r : List ℕ) (is : r ≡ row s.marks (s.depth - 1)) where
-    pub restore_fields : Fields dom map s.gates s.width r s.marks (s.depth - 1)
-    restore_fields =
-        let d = s.depth - 1 in
-        subst (λ x. Fields dom map s.gates s.width x s.marks d) (sym is)
-        (fields dom map s.gates s.width (row s.marks d) s.marks d s.room s.perms
-        (s.table.2 d (omega arith), λ g hg. s.within g d hg (omega arith))
-        (omega arith, s.table.1, λ e h. s.table.2 e (omega arith))
-        (λ g e hg h. s.fall g e hg (omega arith))
-        (λ g e hg q. let G : ℕ → Type 0 = λ x. get_or (row s.marks x) g 0 ≤ get_or (row s.marks e) g 0 in subst G q (s.fall g e hg (omega arith)))
-        (λ g e hg h. s.within g e hg (omega arith)))
-
     newest_means : drawn dom map s.gates s.width (row s.marks (s.depth - 1)) s.marks (s.depth - 1) ≡ restored (meaning s)
     newest_means =
         let d = s.depth - 1 in

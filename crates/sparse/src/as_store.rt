@@ -2,15 +2,16 @@
 ghost use Rattle.std.specs.Prelude.{◌≡◌, min, length};
 ghost use Rattle.model.specs.Bounds.{most_cells};
 ghost use Rattle.store.specs.Meaning.{fresh};
+ghost use Rattle.store.specs.Calls.{Takes};
 ghost use Rattle.sparse.specs.Meanings.{meaning};
 ghost use Rattle.sparse.specs.Soundness.{sound};
 
 use crate::Sparse;
 use crate::cells::Cells;
-use model::bounds::{CELLS, GATES, MARKS, WIDTH};
+use model::bounds::{CELLS, GATES, MARKS};
 use model::refusal::Refusal;
+use std::ops::Range;
 use store::Store;
-use store::list::all_below;
 
 impl<'a> Sparse<'a> {
     /// A store of no gates yet. Each position of each gate will take one cell of both.
@@ -26,6 +27,25 @@ impl<'a> Sparse<'a> {
             depth: 0,
         }
     }
+
+    /// Puts every position of n gates at its own place, all in the domains, and drops all marks.
+    fn begin(&mut self, n: usize, w: u16)
+        requires { Takes (meaning self.old) n w }
+        ensures { meaning self.new ≡ fresh (meaning self.old).cells n w }
+    {
+        self.cells.fill(w, n * usize::from(w));
+        (self.gates, self.width) = (n, w);
+        self.size = [w; GATES];
+        self.depth = 0;
+    }
+
+    /// Every position of a gate, ascending.
+    fn positions(&self) -> Range<u16>
+        ensures first { result.start ≡ 0 }
+        ensures end { result.end ≡ self.now.width }
+    {
+        0..self.width
+    }
 }
 
 impl<'a> Store for Sparse<'a> {
@@ -33,69 +53,49 @@ impl<'a> Store for Sparse<'a> {
 
     ghost sound = { sound };
 
-    ghost good = { λ _. Unit {0} };
-
     fn holds(&self) -> usize {
         self.cells.dom.len().min(self.cells.map.len()).min(CELLS)
     }
 
     fn reset(&mut self, n: usize, w: u16) -> Result<(), Refusal> {
-        if n == 0 || n > GATES || w == 0 || w as usize > WIDTH {
-            return Err(Refusal::NoRoom);
-        }
-        let cells = n * w as usize;
-        if cells > self.holds() {
-            return Err(Refusal::NoRoom);
-        }
-        self.cells.fill(w, cells);
-        (self.gates, self.width) = (n, w);
-        self.size = [w; GATES];
-        self.depth = 0;
+        self.check_size(n, w)?;
+        self.begin(n, w);
         Ok(())
     }
 
     fn strike(&mut self, g: usize, p: u16) -> Result<u16, Refusal> {
-        if g >= self.gates {
-            return Err(Refusal::NoGate);
-        }
-        if p >= self.width {
-            return Err(Refusal::NoPosition);
-        }
+        self.check_position(g, p)?;
         Ok(self.take_out(g, p))
     }
 
     fn bind(&mut self, g: usize, p: u16) -> Result<u16, Refusal> {
-        if g >= self.gates {
-            return Err(Refusal::NoGate);
-        }
-        if p >= self.width {
-            return Err(Refusal::NoPosition);
-        }
+        self.check_position(g, p)?;
         Ok(self.bind_to(g, p))
     }
 
     fn keep(&mut self, g: usize, list: &[u16]) -> Result<u16, Refusal> {
-        if g >= self.gates {
-            return Err(Refusal::NoGate);
-        }
-        if !all_below(list, self.width) {
-            return Err(Refusal::NoPosition);
-        }
+        self.check_list(g, list)?;
         Ok(self.keep_listed(g, list))
     }
 
+    #[tactic(auto, using(crate::proofs::Marks::save_means, crate::specs::Soundness::length_marks))]
     fn save(&mut self) -> Result<u16, Refusal> {
         if self.depth >= MARKS {
             return Err(Refusal::TooManySaves);
         }
-        Ok(self.push_mark())
+        self.marks[self.depth] = self.size;
+        self.depth += 1;
+        Ok(self.depth as u16)
     }
 
+    #[tactic(auto, using(crate::proofs::Marks::restore_means, crate::specs::Soundness::length_marks))]
     fn restore(&mut self) -> Result<u16, Refusal> {
         if self.depth == 0 {
             return Err(Refusal::NoSave);
         }
-        Ok(self.pop_mark())
+        self.depth -= 1;
+        self.size = self.marks[self.depth];
+        Ok(self.depth as u16)
     }
 
     fn gates(&self) -> usize {
@@ -107,52 +107,34 @@ impl<'a> Store for Sparse<'a> {
     }
 
     fn contains(&self, g: usize, p: u16) -> Result<bool, Refusal> {
-        if g >= self.gates {
-            return Err(Refusal::NoGate);
-        }
-        if p >= self.width {
-            return Err(Refusal::NoPosition);
-        }
+        self.check_position(g, p)?;
         Ok(self.has(g, p))
     }
 
+    #[tactic(auto, using(crate::proofs::Calls::left_now))]
     fn count(&self, g: usize) -> Result<u16, Refusal> {
-        if g >= self.gates {
-            return Err(Refusal::NoGate);
-        }
-        Ok(self.left(g))
+        self.check_gate(g)?;
+        Ok(self.size[g])
     }
 
     fn lowest(&self, g: usize) -> Result<Option<u16>, Refusal> {
-        if g >= self.gates {
-            return Err(Refusal::NoGate);
-        }
-        let base = g * self.width as usize;
-        for p in 0..self.width {
-            if self.cells.map[base + p as usize] < self.size[g] {
-                return Ok(Some(p));
-            }
-        }
-        Ok(None)
+        self.check_gate(g)?;
+        Ok(self.positions().find(|&p| self.has(g, p)))
     }
 
     fn highest(&self, g: usize) -> Result<Option<u16>, Refusal> {
-        if g >= self.gates {
-            return Err(Refusal::NoGate);
-        }
-        let base = g * self.width as usize;
-        for p in (0..self.width).rev() {
-            if self.cells.map[base + p as usize] < self.size[g] {
-                return Ok(Some(p));
-            }
-        }
-        Ok(None)
+        self.check_gate(g)?;
+        Ok(self.positions().rev().find(|&p| self.has(g, p)))
     }
 
+    #[tactic(auto, using(crate::proofs::Calls::length_of_gone, crate::proofs::Calls::gone_from_last))]
     fn gone(&self, g: usize, k: usize) -> Result<Option<u16>, Refusal> {
-        if g >= self.gates {
-            return Err(Refusal::NoGate);
+        self.check_gate(g)?;
+        // What has left stands behind the domain, the oldest last.
+        let w = usize::from(self.width);
+        if k >= w - usize::from(self.size[g]) {
+            return Ok(None);
         }
-        Ok(self.gone_at(g, k))
+        Ok(Some(self.cells.dom[self.base(g) + (w - 1 - k)]))
     }
 }

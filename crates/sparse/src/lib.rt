@@ -9,7 +9,6 @@ use model::bounds::{GATES, MARKS};
 pub mod as_store;
 mod cells;
 mod gate;
-mod undo;
 
 /// The first `size[g]` places of gate g are its domain; the others hold what has left it, the newest first.
 /// What has left stays where it is, so a mark keeps only the sizes.
@@ -19,6 +18,7 @@ pub struct Sparse<'a> {
     gates: usize,
     width: u16,
     size: [u16; GATES],
+    // kept: a table and how much of it is used: the memory is fixed, and a mark needs no loan of the caller's.
     marks: [[u16; GATES]; MARKS],
     depth: usize,
     ghost room: { Room cells.dom.now cells.map.now gates width },

@@ -1,19 +1,12 @@
-use Rattle.std.proofs.Common.{ℕ, ◌+◌, ◌&&◌, ltb, leb, get_or, take, sym, ◌∙◌, subst, arith}
-use Rattle.std.proofs.lemmas.List.{take_all}
+use Rattle.std.proofs.Common.{◌≡◌, ℕ, ◌+◌, ◌&&◌, ltb, leb, get_or, take, sym, ap, ◌∙◌, subst, arith}
 use Rattle.std.proofs.lemmas.Bool.{and_from, and_parts, both_ways, leb-true, le-leb, ltb-true, lt-ltb}
 use Rattle.model.specs.Planners.{all_below}
 use Rattle.store.proofs.Members.{true_is, all_below_at}
-use Rattle.sparse.specs.Arrays.{from, Gathered}
+use Rattle.sparse.specs.Arrays.{from, dom_swapped, map_swapped, Gathered}
 use Rattle.sparse.specs.declared.cells.Cells.{Cells}
 use Rattle.sparse.proofs.Gathers.{gather_skip, gather_swap}
 use Rattle.sparse.proofs.cells.Cells.gather.Goals as goal
 use Rattle.sparse.proofs.cells.Cells.gather.Goals.{then-waits, else-waits}
-
-pub bounds-self-base : goal.bounds-self-base
-bounds-self-base c =
-    let xs = c.args.list.now in
-    let h = all_below_at c.args.w xs (true_is (all_below c.args.w xs) c.requires.within) c.loop-p.p-index c.loop-p-test.true in
-    omega (arith, c.loop-p.invariant.moved.map_long, c.requires.room)
 
 pub loop-p-preserved : goal.loop-p-preserved
 loop-p-preserved c =
@@ -28,23 +21,18 @@ loop-p-preserved c =
     let hp = all_below_at c.args.w xs (true_is (all_below c.args.w xs) c.requires.within) in
     let G : Cells → ℕ → Type 0 = λ x r. Gathered c.args.base c.args.w c.args.count (take (i + 1) xs) r d₀ m₀ x.dom.now x.map.now in
     let front = c.loop-p.front in
-    let at = from m c.args.base (get_or xs i 0) in
+    let at = from m c.args.base c.from.result in
+    let is : at ≡ from m c.args.base (get_or xs i 0) = ap (from m c.args.base) c.from.ensures in
     let n = c.args.count in
     elim c.if-waits.branch [
       | then-waits w ↦
           let both = and_parts (leb front at) (ltb at n) (sym c.waits.ensures ∙ w.if-waits.true) in
           subst (λ r. G c.if-waits.self r) (sym w.front-is) (subst (λ x. G x (front + 1)) (sym w.self-is)
           (gather_swap c.args.base c.args.w n xs i front d₀ m₀ d m hi (hp i hi) inv c.requires.some
-          (leb-true front at both.0) (ltb-true at n both.1) (omega (arith, inv.moved.dom_long, c.requires.room)) (omega (arith, inv.moved.map_long, c.requires.room))
-          w.swap.new.self.dom.now w.swap.new.self.map.now w.swap.ensures.dom w.swap.ensures.map))
+          (omega (arith, leb-true front at both.0)) (omega (arith, ltb-true at n both.1)) (omega (arith, inv.moved.dom_long, c.requires.dom_room)) (omega (arith, inv.moved.map_long, c.requires.map_room))
+          w.swap.new.self.dom.now w.swap.new.self.map.now (w.swap.ensures.dom ∙ ap (λ x. dom_swapped d c.args.base x front) is) (w.swap.ensures.map ∙ ap (λ x. map_swapped d m c.args.base x front) is)))
       | else-waits w ↦
           subst (λ r. G c.if-waits.self r) (sym w.front-is) (subst (λ x. G x front) (sym w.self-is)
           (gather_skip c.args.base c.args.w n xs i front d₀ m₀ d m hi (hp i hi) inv
-          (λ a b. both_ways (leb front at && ltb at n) (sym c.waits.ensures ∙ w.if-waits.false) (and_from (leb front at) (ltb at n) (le-leb front at a) (lt-ltb at n b)))))
+          (λ a b. both_ways (leb front at && ltb at n) (sym c.waits.ensures ∙ w.if-waits.false) (and_from (leb front at) (ltb at n) (le-leb front at (omega arith)) (lt-ltb at n (omega arith))))))
     ]
-
-pub returns : goal.returns
-returns c =
-    let xs = c.args.list.now in
-    subst (λ l. Gathered c.args.base c.args.w c.args.count l c.loop-p.front c.args.self.now.dom.now c.args.self.now.map.now c.loop-p.self.dom.now c.loop-p.self.map.now)
-    (take_all c.loop-p.p-index xs c.loop-p-test.false) c.loop-p.invariant

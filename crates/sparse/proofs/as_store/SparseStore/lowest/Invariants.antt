@@ -1,7 +1,0 @@
-use Rattle.std.proofs.Common.{◌≡◌, ℕ, ◌<◌, true}
-use Rattle.model.specs.Families.{has}
-use Rattle.sparse.specs.Meanings.{meaning}
-use Rattle.sparse.proofs.as_store.SparseStore.lowest.Given as goal
-
-abbrev pub invariant-loop-p : goal.invariant-loop-p
-invariant-loop-p l = (q : ℕ) → q < l.p → has ((meaning l.self).gone l.g) q ≡ true
