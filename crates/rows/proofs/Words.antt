@@ -1,29 +1,13 @@
 -- Rows, word by word.
-use Rattle.std.proofs.Common.{◌≡◌, ℕ, zero, suc, ◌+◌, ◌-◌, ◌*◌, ◌/◌, ◌%◌, ◌^◌, ◌<◌, ◌≤◌, Bool, true, false, not, ◌&&◌, ◌||◌, eqb, ltb, List, [], ◌∷◌, length, get_or, set, sym, ap, ◌∙◌, ap₂, ⊎_elim, arith}
+use Rattle.std.proofs.Common.{◌≡◌, ℕ, ◌+◌, ◌-◌, ◌*◌, ◌/◌, ◌%◌, ◌^◌, ◌<◌, ◌≤◌, Bool, true, false, not, ◌&&◌, ◌||◌, eqb, ltb, List, length, get_or, set, sym, ap, ◌∙◌, ap₂, ⊎_elim, arith}
 use mathlib.Core.Bool.{and-true, or_comm}
 use lib.Bits.{bit_and, bit_or, and_mask}
 use Rattle.std.proofs.lemmas.Bool.{eq-eqb, ne_eqb, cases_eq, cases_lt, lt-ltb, le-ltb, both_ways}
 use Rattle.std.proofs.lemmas.Nat.{one_shl, pow_pos, pow_below, shr_le}
 use lib.Count.{count_trailing_zeros, count_leading_zeros}
 use Rattle.std.proofs.lemmas.List.{get_or-set_same, get_or-set_other}
-use Rattle.model.specs.Bounds.{most_width}
 use Rattle.rows.specs.Rows.{bit, held}
 use Rattle.rows.proofs.Digits.{bit_of_and, bit_of_or, bit_of_not, bit_pow, bit_shr, bit_zero, bit_above, trailing_first, leading_last}
-
--- a fact of four words, place by place
-four : (P : ℕ → ℕ → Type 0) (a b c d : ℕ) → P 0 a → P 1 b → P 2 c → P 3 d → (i : ℕ) → i < 4 → P i (get_or (a ∷ b ∷ c ∷ d ∷ []) i 0)
-four P a b c d p q r s zero h = p
-four P a b c d p q r s (suc zero) h = q
-four P a b c d p q r s (suc (suc zero)) h = r
-four P a b c d p q r s (suc (suc (suc zero))) h = s
-four P a b c d p q r s (suc (suc (suc (suc i)))) h = absurd (omega arith)
-
--- a row of four words, from the bits of each
-pub held_four : (t : ℕ → Bool) (a b c d : ℕ) → let P : ℕ → ℕ → Type 0 = λ i x. (k : ℕ) → k < 64 → bit x k ≡ t (64 * i + k) in
-    P 0 a → P 1 b → P 2 c → P 3 d → (q : ℕ) → q < most_width → held (a ∷ b ∷ c ∷ d ∷ []) q ≡ t q
-held_four t a b c d p₀ p₁ p₂ p₃ q h =
-    let e : 64 * (q / 64) + q % 64 ≡ q = omega arith in
-    four (λ i x. (k : ℕ) → k < 64 → bit x k ≡ t (64 * i + k)) a b c d p₀ p₁ p₂ p₃ (q / 64) (omega arith) (q % 64) (omega arith) ∙ ap t e
 
 -- word i changed
 module _ (ws : List ℕ) (i x : ℕ) (long : i < length ws) (t : ℕ → Bool)
@@ -40,7 +24,7 @@ module _ (ws : List ℕ) (i x : ℕ) (long : i < length ws) (t : ℕ → Bool)
       ap (λ y. bit y (q % 64)) (get_or-set_other ws i (q / 64) x 0 ne) ∙ else' q ne)
       (cases_eq (q / 64) i)
 
-pub flag : (k : ℕ) → k < 64 → (1 * 2 ^ k) % 2 ^ 64 ≡ 2 ^ k
+flag : (k : ℕ) → k < 64 → (1 * 2 ^ k) % 2 ^ 64 ≡ 2 ^ k
 flag k h = one_shl k 64 h
 
 -- contains
@@ -89,7 +73,7 @@ module _ (ws : List ℕ) (i k : ℕ) (long : i < length ws) (small : k < 64) whe
       (λ q ne. sym (ap (λ b. held ws q && not b) (elsewhere q ne) ∙ and-true (held ws q)))
 
 -- a word of ones below n
-pub ones_bits : (n k : ℕ) → n ≤ 64 → k < 64 → bit (2 ^ n - 1) k ≡ ltb k n
+ones_bits : (n k : ℕ) → n ≤ 64 → k < 64 → bit (2 ^ n - 1) k ≡ ltb k n
 ones_bits n k h l =
     ⊎_elim
     (λ (s : k < n).
@@ -99,12 +83,12 @@ ones_bits n k h l =
     (λ (s : n ≤ k). bit_above n (2 ^ n - 1) k (omega (arith, pow_pos n)) s ∙ sym (le-ltb k n s))
     (cases_lt k n)
 
-pub ltb_further : (k d w : ℕ) → ltb k (w - d) ≡ ltb (d + k) w
-ltb_further k d w =
-    ⊎_elim
-    (λ (s : d + k < w). lt-ltb k (w - d) (omega arith) ∙ sym (lt-ltb (d + k) w s))
-    (λ (s : w ≤ d + k). le-ltb k (w - d) (omega arith) ∙ sym (le-ltb (d + k) w s))
-    (cases_lt (d + k) w)
+-- the same, as the code makes it
+pub ones_below : (n k : ℕ) → n < 64 → k < 64 → bit (1 * 2 ^ n % 18446744073709551616 - 1) k ≡ ltb k n
+ones_below n k h l = ap (λ x. bit (x - 1) k) (flag n h) ∙ ones_bits n k (omega arith) l
+
+pub ones_all : (n k : ℕ) → 64 ≤ n → k < 64 → ltb k n ≡ bit 18446744073709551615 k
+ones_all n k h l = lt-ltb k n (omega arith) ∙ sym (ones_bits 64 k (omega arith) l ∙ lt-ltb k 64 l)
 
 -- the first and the last bit of a word in its row
 module _ (ws : List ℕ) where
@@ -138,20 +122,6 @@ module _ (ws : List ℕ) where
               let m' : q % 64 ≡ r + (q - from) = omega arith in
               ap₂ (λ a b. bit (get_or ws a 0) b) d' m' ∙ sym (bit_shr w r (q - from)) ∙ f.2 (q - from) (omega arith),
         )
-
-  pub first_word : (i : ℕ) → (get_or ws i 0 ≡ 0 → ⊥) → get_or ws i 0 < 2 ^ 64 →
-      let t : ℕ = count_trailing_zeros 64 (get_or ws i 0) in
-      (t < 64) × (held ws (64 * i + t) ≡ true) × ((q : ℕ) → 64 * i ≤ q → q < 64 * i + t → held ws q ≡ false)
-  first_word i nz fits =
-      let f = trailing_first 64 (get_or ws i 0) (omega arith) fits in (
-        f.0,
-        held_at ws i (count_trailing_zeros 64 (get_or ws i 0)) f.0 ∙ f.1,
-        λ q l u.
-            let b : q - 64 * i < count_trailing_zeros 64 (get_or ws i 0) = omega arith in
-            let c : count_trailing_zeros 64 (get_or ws i 0) < 64 = f.0 in
-            let e : 64 * i + (q - 64 * i) ≡ q = omega arith in
-            ap (held ws) (sym e) ∙ held_at ws i (q - 64 * i) (omega arith) ∙ f.2 (q - 64 * i) b,
-      )
 
   pub last_word : (i : ℕ) → (get_or ws i 0 ≡ 0 → ⊥) → get_or ws i 0 < 2 ^ 64 →
       (j : ℕ) × (j + count_leading_zeros 64 (get_or ws i 0) ≡ 63) × (held ws (64 * i + j) ≡ true) × ((q : ℕ) → 64 * i + j < q → q < 64 * i + 64 → held ws q ≡ false)

@@ -1,5 +1,5 @@
 -- What a stack means: the list of its entries, oldest first, and how many it can take.
-use Rattle.std.specs.Prelude.{◌≡◌, ℕ, ◌<◌, ◌≤◌, Bool, true, false, List, [], ◌∷◌, ◌++◌, length, take, Some, None, Option, slice_index_or}
+use Rattle.std.specs.Prelude.{◌≡◌, ℕ, ◌<◌, ◌≤◌, List, [], ◌∷◌, ◌++◌, length, take, Some, None, Ok, Err, Option, Result, slice_index_or}
 use Rattle.stack.specs.declared.Stack.{Stack}
 
 abbrev pub items : {X : Type 0} → Stack X → List X
@@ -8,9 +8,9 @@ items s = take s.len s.slots.now
 abbrev pub room : {X : Type 0} → Stack X → ℕ
 room s = length s.slots.now
 
-pub record Pushed {X : Type 0} (before : Stack X) (x : X) (r : Bool) (after : Stack X) : Type 0 where
-  pub took : length (items before) < room before → (r ≡ true) × (items after ≡ items before ++ x ∷ [])
-  pub full : room before ≤ length (items before) → (r ≡ false) × (after ≡ before)
+pub record Pushed {X : Type 0} (before : Stack X) (x : X) (r : Result (Unit {0}) X) (after : Stack X) : Type 0 where
+  pub took : length (items before) < room before → (r ≡ Ok tt) × (items after ≡ items before ++ x ∷ [])
+  pub full : room before ≤ length (items before) → (r ≡ Err x) × (after ≡ before)
   pub room : room after ≡ room before
 
 abbrev pub Popped : {X : Type 0} → Stack X → Option X → Stack X → Type 0

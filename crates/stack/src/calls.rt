@@ -31,46 +31,35 @@ impl<'a, T: Copy> Stack<'a, T> {
     pub fn entries(&self) -> &[T]
         ensures { result.now ≡ items self.now }
     {
-        let n = self.len.min(self.slots.len());
-        let slots: &[T] = &*self.slots;
-        &slots[0..n]
+        &self.slots[..self.len.min(self.slots.len())]
     }
 
     /// The i-th entry, the oldest being the 0th.
     pub fn get(&self, i: usize) -> Option<T>
         ensures { At (items self.now) i result }
     {
-        let entries = self.entries();
-        if i < entries.len() {
-            Some(entries[i])
-        } else {
-            None
-        }
+        self.entries().get(i).copied()
     }
 
-    /// Adds an entry; answers false, and changes nothing, where there is no room.
-    pub fn push(&mut self, x: T) -> bool
+    /// Adds an entry, or hands it back and changes nothing where there is no room.
+    pub fn push(&mut self, x: T) -> Result<(), T>
         ensures { Pushed self.old x result self.new }
     {
         let n = self.len();
         if n >= self.slots.len() {
-            return false;
+            return Err(x);
         }
         self.slots[n] = x;
         self.len = n + 1;
-        true
+        Ok(())
     }
 
     /// Takes the newest entry.
     pub fn pop(&mut self) -> Option<T>
         ensures { Popped self.old result self.new }
     {
-        let n = self.len();
-        if n == 0 {
-            return None;
-        }
-        self.len = n - 1;
-        Some(self.slots[n - 1])
+        self.len = self.len().checked_sub(1)?;
+        Some(self.slots[self.len])
     }
 
     /// Takes all entries out.
