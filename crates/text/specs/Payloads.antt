@@ -1,6 +1,7 @@
 -- What the payloads of a plan's fields say. Each says nothing where a number is out of range, or where its numbers do not go together.
-use Rattle.std.specs.Prelude.{ℕ, ◌+◌, ◌-◌, ◌*◌, Bool, true, cond, not, ◌&&◌, List, [], ◌∷◌, length, drop, ℤ, pos, negsuc, Some, None, Option, ◌==◌, int_le, nat_le, nat_lt, slice_index}
+use Rattle.std.specs.Prelude.{ℕ, ◌+◌, ◌-◌, ◌*◌, Bool, cond, not, ◌&&◌, List, [], ◌∷◌, length, drop, ℤ, pos, negsuc, Some, None, Option, ◌==◌, int_le, nat_le, nat_lt, slice_index}
 use Rattle.std.specs.Int.{cast_signed, w16}
+use Rattle.std.specs.List.{list_all}
 use Rattle.std.specs.Option.{option_map}
 use Rattle.model.specs.Bounds.{most_gates, most_width, most_members, most_shift}
 use Rattle.model.specs.Members.{gates_differ}
@@ -65,8 +66,7 @@ members_in (a ∷ (b ∷ rest)) = (a, b) ∷ members_in rest
 
 -- each member's gate is below n
 abbrev pub gates_below : ℕ → List (ℕ × ℕ) → Bool
-gates_below n [] = true
-gates_below n (m ∷ ms) = nat_lt m.0 n && gates_below n ms
+gates_below n ms = list_all (λ m. nat_lt m.0 n) ms
 
 -- one member at least, each of a gate below n, and none twice
 abbrev pub members_of : List ℕ → ℕ → Option (List (ℕ × ℕ))
