@@ -2,9 +2,11 @@
 #![tactic(auto)]
 
 mod case;
+mod each;
 mod error;
 mod hexadecimal;
 pub mod told;
 
-pub use case::{Case, for_each};
+pub use case::Case;
+pub use each::for_each;
 pub use error::CaseError;

@@ -7,8 +7,10 @@ use store::Store;
 
 /// A plan of two gates and four positions, where gate 1 starts with 1 and 2.
 const PLAN: [u8; 15] = [1, 0, 3, 2, 0, 4, 2, 0, 3, 1, 1, 2, 7, 0, 0];
-/// The same, which ends in its second field.
-const CUT: [u8; 10] = [1, 0, 3, 2, 0, 4, 2, 0, 3, 1];
+/// Where it is cut, in its second field.
+const CUT: usize = 10;
+
+// kept: the log and the store stay two parameters; as one struct each call would be `self.log.add(.., self.store...)`, which is no plainer.
 
 /// What a store answers to the questions on one gate.
 fn add_gate<S: Store>(log: &mut Log, s: &S, g: usize) -> Result<(), AllocError> {
@@ -138,7 +140,7 @@ fn add_apart<S: Store, R: Store>(
     log.add_yes("same", first.same(second))?;
     log.add("strike", second.strike(1, 2))?;
     log.add_yes("same", first.same(second))?;
-    log.add("load", first.load(&CUT))?;
+    log.add("load", first.load(&PLAN[..CUT]))?;
     log.add_yes("same", first.same(second))?;
     log.add("load", first.load(&PLAN))?;
     log.add_yes("same", first.same(second))
@@ -168,7 +170,7 @@ pub fn on_planners<S: Store + Drop, R: Store + Drop>(
     let mut first = Planner::new(one);
     let mut second = Planner::new(two);
     add_calls(&mut log, &mut first)?;
-    log.add("load", first.load(&CUT))?;
+    log.add("load", first.load(&PLAN[..CUT]))?;
     add_calls(&mut log, &mut first)?;
     add_loads(&mut log, &mut first, &mut second)?;
     add_calls(&mut log, &mut first)?;

@@ -12,6 +12,7 @@ use std::fmt;
 use store::Store;
 
 /// The kinds of store, and the layers on them.
+// kept: a switch, since stores of different types cannot stand in one list of values.
 #[derive(Clone, Copy)]
 pub enum Kind {
     Sparse,

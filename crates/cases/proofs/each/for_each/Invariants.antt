@@ -1,7 +1,7 @@
 use Rattle.std.proofs.Common.{map}
 use Rattle.std.specs.List.{FoldsTo}
 use Rattle.cases.specs.Runs.{RunsOn}
-use Rattle.cases.proofs.case.for_each.Given as goal
+use Rattle.cases.proofs.each.for_each.Given as goal
 
 abbrev pub invariant-loop-line : goal.invariant-loop-line
 invariant-loop-line g l =

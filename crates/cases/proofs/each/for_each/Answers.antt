@@ -1,7 +1,7 @@
 use Rattle.std.proofs.Common.{rules}
 use Rattle.std.proofs.lemmas.Iterator.Consumers.{YieldsList-end}
 use Rattle.std.proofs.lemmas.Iterator.Splits.{YieldsList-from_lines}
-use Rattle.cases.proofs.case.for_each.Goals as goal
+use Rattle.cases.proofs.each.for_each.Goals as goal
 
 pub returns : goal.returns
 returns g c =
