@@ -46,10 +46,10 @@ module _ (s : Bits) (g : ℕ) (hg : g < s.gates) where
       (w.0, w.1, λ q h. bit_shut s g q hg (omega (arith, w.0)) (f.3 q (omega arith) h))
 
   pub greatest_is : (o : Option ℕ) → Last (row_at s.rows g) o → Greatest (meaning s) g o
-  greatest_is None f = λ q h. bit_shut s g q hg h (f q (omega (arith, s.fit.1)))
+  greatest_is None f = λ q h. bit_shut s g q hg h (f q (omega arith) (omega (arith, s.fit.1)))
   greatest_is (Some p) f =
-      let w = open_where p f.0 f.1 in
-      (w.0, w.1, λ q h l. bit_shut s g q hg l (f.2 q h (omega (arith, s.fit.1))))
+      let w = open_where p f.1 f.2 in
+      (w.0, w.1, λ q h l. bit_shut s g q hg l (f.3 q h (omega (arith, s.fit.1))))
 
   pub next_is : (from : ℕ) (o : Option ℕ) → Next (row_at s.rows g) from o → NextOpen (meaning s) g from o
   next_is from None f = λ q l t.

@@ -28,10 +28,10 @@ module _ (s : Bits) (ys : List Record) (r : Record) (e : on s ≡ ys ++ r ∷ []
   pub back_count : get_or s.count r.gate 0 ≤ most_width
   back_count = omega (arith, s.counts (r.gate, here.0), s.fit.1)
 
-  pub back_kept : (cap : ℕ) → cap ≡ room s.trail → (row : Row) → Holds row (λ q. eqb q r.position || lit (row_at s.rows r.gate) q)
+  kept_here : (cap : ℕ) → cap ≡ room s.trail → (row : Row) → Holds row (λ q. eqb q r.position || lit (row_at s.rows r.gate) q)
       → ((d : ℕ) → d < s.depth → get_or s.marks d 0 ≤ length ys)
       → Facts cap ys s.gates s.width (set s.rows r.gate row) (set s.count r.gate (get_or s.count r.gate 0 + 1)) s.marks s.depth
-  back_kept cap ec row h top =
+  kept_here cap ec row h top =
       let f = s.fit in
       let l = s.long in
       let g = r.gate in
@@ -50,6 +50,13 @@ module _ (s : Bits) (ys : List Record) (r : Record) (e : on s ≡ ys ++ r ∷ []
       (tied_pop ys r s.gates s.width s.rows row hr tied here.1 (apart_last ys r apart) h)
       (counts_pop ys r s.gates s.width s.count hc counts few here.0)
       (λ x. ((s.marked x).0, top x.1 x.3))
+
+  pub back_kept : (g : ℕ) → g ≡ r.gate → (cap : ℕ) → cap ≡ room s.trail → (row : Row) → Holds row (λ q. eqb q r.position || lit (row_at s.rows g) q)
+      → ((d : ℕ) → d < s.depth → get_or s.marks d 0 ≤ length ys)
+      → Facts cap ys s.gates s.width (set s.rows g row) (set s.count g (get_or s.count g 0 + 1)) s.marks s.depth
+  back_kept g eg cap ec row h top =
+      subst (λ (v : ℕ). Facts cap ys s.gates s.width (set s.rows v row) (set s.count v (get_or s.count v 0 + 1)) s.marks s.depth) (sym eg)
+      (kept_here cap ec row (subst (λ (v : ℕ). Holds row (λ q. eqb q r.position || lit (row_at s.rows v) q)) eg h) top)
 
 pub undo_top : (e s : Bits) → 0 < e.depth → s.marks ≡ e.marks → s.depth ≡ e.depth → (m : ℕ) → get_or e.marks (e.depth - 1) 0 ≤ m →
     (d : ℕ) → d < s.depth → get_or s.marks d 0 ≤ m

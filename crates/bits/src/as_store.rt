@@ -1,40 +1,36 @@
 // A bit store is a store.
-ghost use Rattle.std.specs.Prelude.{◌≡◌, ◌-◌, ◌<◌, true, not, length, Ok, nat_eq, slice_index};
+ghost use Rattle.std.specs.Prelude.{◌≡◌, ◌-◌, ◌<◌, true, length, Ok, nat_eq, slice_get, slice_index};
 ghost use Rattle.model.specs.Bounds.{most_marks};
 ghost use Rattle.model.specs.Families.{has};
 ghost use Rattle.model.specs.Planners.{all_below};
 ghost use Rattle.stack.specs.Stacks.{items};
-ghost use Rattle.store.specs.Meaning.{appended, left};
-ghost use Rattle.store.specs.Calls.{Strike, Kept, Save, Restore, Least, Greatest, Gone};
+ghost use Rattle.store.specs.Meaning.{appended};
+ghost use Rattle.store.specs.Calls.{Strike, Kept, Save, Restore};
 ghost use Rattle.store.proofs.Sweeps.{outs};
 ghost use Rattle.rows.specs.Rows.{lit};
+ghost use Rattle.bits.specs.Representation.{gone_in};
 ghost use Rattle.bits.specs.Meanings.{meaning};
 ghost use Rattle.bits.specs.Soundness.{sound};
 
 use crate::Bits;
 use crate::entry::Record;
-use model::bounds::{CELLS, GATES, MARKS, WIDTH};
+use model::bounds::{CELLS, GATES, MARKS};
 use model::refusal::Refusal;
 use rows::Row;
 use store::Store;
-use store::list::all_below;
 
 impl<'a> Store for Bits<'a> {
     ghost mean = { meaning };
 
     ghost sound = { sound };
 
-    ghost good = { λ _. Unit {0} };
-
     fn holds(&self) -> usize {
         self.trail.room().min(CELLS)
     }
 
     fn reset(&mut self, n: usize, w: u16) -> Result<(), Refusal> {
-        if n == 0 || n > GATES || w == 0 || w as usize > WIDTH || n * w as usize > self.holds() {
-            return Err(Refusal::NoRoom);
-        }
-        let full = Row::below(w as usize);
+        self.check_size(n, w)?;
+        let full = Row::below(usize::from(w));
         self.trail.clear();
         self.rows = [full; GATES];
         self.count = [w; GATES];
@@ -45,32 +41,17 @@ impl<'a> Store for Bits<'a> {
     }
 
     fn strike(&mut self, g: usize, p: u16) -> Result<u16, Refusal> {
-        if g >= self.gates {
-            return Err(Refusal::NoGate);
-        }
-        if p >= self.width {
-            return Err(Refusal::NoPosition);
-        }
+        self.check_position(g, p)?;
         Ok(self.strike_at(g, p))
     }
 
     fn bind(&mut self, g: usize, p: u16) -> Result<u16, Refusal> {
-        if g >= self.gates {
-            return Err(Refusal::NoGate);
-        }
-        if p >= self.width {
-            return Err(Refusal::NoPosition);
-        }
+        self.check_position(g, p)?;
         Ok(self.bind_at(g, p))
     }
 
     fn keep(&mut self, g: usize, list: &[u16]) -> Result<u16, Refusal> {
-        if g >= self.gates {
-            return Err(Refusal::NoGate);
-        }
-        if !all_below(list, self.width) {
-            return Err(Refusal::NoPosition);
-        }
+        self.check_list(g, list)?;
         Ok(self.keep_at(g, list))
     }
 
@@ -98,44 +79,37 @@ impl<'a> Store for Bits<'a> {
         self.width
     }
 
+    #[tactic(auto, using(crate::proofs::Openings::bit_is))]
     fn contains(&self, g: usize, p: u16) -> Result<bool, Refusal> {
-        if g >= self.gates {
-            return Err(Refusal::NoGate);
-        }
-        if p >= self.width {
-            return Err(Refusal::NoPosition);
-        }
-        Ok(self.contains_at(g, p))
+        self.check_position(g, p)?;
+        Ok(self.rows[g].contains(p as u8))
     }
 
+    #[tactic(auto, using(crate::proofs::Openings::count_is))]
     fn count(&self, g: usize) -> Result<u16, Refusal> {
-        if g >= self.gates {
-            return Err(Refusal::NoGate);
-        }
-        Ok(self.count_at(g))
+        self.check_gate(g)?;
+        Ok(self.count[g])
     }
 
+    #[tactic(auto, using(crate::proofs::Openings::least_is))]
     fn lowest(&self, g: usize) -> Result<Option<u16>, Refusal> {
-        if g >= self.gates {
-            return Err(Refusal::NoGate);
-        }
-        Ok(self.lowest_at(g))
+        self.check_gate(g)?;
+        Ok(self.rows[g].lowest())
     }
 
+    #[tactic(auto, using(crate::proofs::Openings::greatest_is))]
     fn highest(&self, g: usize) -> Result<Option<u16>, Refusal> {
-        if g >= self.gates {
-            return Err(Refusal::NoGate);
-        }
-        Ok(self.highest_at(g))
+        self.check_gate(g)?;
+        Ok(self.rows[g].highest())
     }
 
+    #[tactic(auto, using(crate::proofs::Walks::gone_is))]
     fn gone(&self, g: usize, k: usize) -> Result<Option<u16>, Refusal> {
-        if g >= self.gates {
-            return Err(Refusal::NoGate);
-        }
+        self.check_gate(g)?;
         Ok(self.gone_at(g, k))
     }
 
+    #[tactic(auto, using(crate::proofs::Openings::next_is))]
     fn next_open(&self, g: usize, from: u16) -> Option<u16> {
         if g >= self.gates || from >= self.width {
             return None;
@@ -151,17 +125,16 @@ impl<'a> Bits<'a> {
         requires position { p < self.old.width }
         ensures { Strike (meaning self.old) g p (Ok result) (meaning self.new) }
     {
-        let mut row = self.rows[g];
+        let row = self.rows[g];
         if !row.contains(p as u8) {
             return 0;
         }
-        row.remove(p as u8);
+        self.rows[g].remove(p as u8);
         // there is room: no position leaves its gate twice
         let _ = self.trail.push(Record {
             gate: g as u8,
             position: p as u8,
         });
-        self.rows[g] = row;
         self.count[g] -= 1;
         1
     }
@@ -183,8 +156,8 @@ impl<'a> Bits<'a> {
         ensures { Kept (meaning self.old) g (has list.now) (Ok result) (meaning self.new) }
     {
         let mut out = self.rows[g];
-        for p in list {
-            out.remove(*p as u8);
+        for &p in list {
+            out.remove(p as u8);
         }
         self.sweep(g, &out);
         self.count[g]
@@ -225,10 +198,8 @@ impl<'a> Bits<'a> {
     {
         while self.trail.len() > to {
             if let Some(r) = self.trail.pop() {
-                let g = r.gate as usize;
-                let mut row = self.rows[g];
-                row.insert(r.position);
-                self.rows[g] = row;
+                let g = usize::from(r.gate);
+                self.rows[g].insert(r.position);
                 self.count[g] += 1;
             }
         }
@@ -236,48 +207,14 @@ impl<'a> Bits<'a> {
         self.depth as u16
     }
 
-    fn contains_at(&self, g: usize, p: u16) -> bool
-        requires gate { g < self.now.gates }
-        requires position { p < self.now.width }
-        ensures { result ≡ not (has ((meaning self.now).gone g) p) }
-    {
-        self.rows[g].contains(p as u8)
-    }
-
-    fn count_at(&self, g: usize) -> u16
-        requires { g < self.now.gates }
-        ensures { result ≡ left (meaning self.now) g }
-    {
-        self.count[g]
-    }
-
-    fn lowest_at(&self, g: usize) -> Option<u16>
-        requires { g < self.now.gates }
-        ensures { Least (meaning self.now) g result }
-    {
-        self.rows[g].lowest()
-    }
-
-    fn highest_at(&self, g: usize) -> Option<u16>
-        requires { g < self.now.gates }
-        ensures { Greatest (meaning self.now) g result }
-    {
-        self.rows[g].highest()
-    }
-
     fn gone_at(&self, g: usize, k: usize) -> Option<u16>
-        requires { g < self.now.gates }
-        ensures { Gone (meaning self.now) g k (Ok result) }
+        ensures { result ≡ slice_get (gone_in g (items self.now.trail)) k }
     {
-        let mut seen: usize = 0;
-        for r in self.trail.entries() {
-            if r.gate as usize == g {
-                if seen == k {
-                    return Some(r.position as u16);
-                }
-                seen += 1;
-            }
-        }
-        None
+        self.trail
+            .entries()
+            .iter()
+            .filter(|r| usize::from(r.gate) == g)
+            .map(|r| u16::from(r.position))
+            .nth(k)
     }
 }

@@ -20,21 +20,19 @@ loop-self-init c =
     )
 
 pub bounds-self-g : goal.bounds-self-g
-bounds-self-g c = back_gate c.loop-self.self (items c.pop.new.self) c.in-Some.r c.in-Some.ensures.0
+bounds-self-g c = omega (arith, c.from-g.ensures, back_gate c.loop-self.self (items c.pop.new.self) c.in-Some.r c.in-Some.ensures.0)
 
 pub bounds-self-g-in-Some : goal.bounds-self-g-in-Some
-bounds-self-g-in-Some c = back_gate c.loop-self.self (items c.pop.new.self) c.in-Some.r c.in-Some.ensures.0
+bounds-self-g-in-Some c = omega (arith, c.from-g.ensures, back_gate c.loop-self.self (items c.pop.new.self) c.in-Some.r c.in-Some.ensures.0)
 
 pub bounds-self-g-in-Some-2 : goal.bounds-self-g-in-Some-2
-bounds-self-g-in-Some-2 c = back_gate c.loop-self.self (items c.pop.new.self) c.in-Some.r c.in-Some.ensures.0
-
-pub bounds-self-g-in-Some-3 : goal.bounds-self-g-in-Some-3
-bounds-self-g-in-Some-3 c = back_gate c.loop-self.self (items c.pop.new.self) c.in-Some.r c.in-Some.ensures.0
+bounds-self-g-in-Some-2 c = omega (arith, c.from-g.ensures, back_gate c.loop-self.self (items c.pop.new.self) c.in-Some.r c.in-Some.ensures.0)
 
 pub overflow_add-self : goal.overflow_add-self
 overflow_add-self c =
     let s = c.loop-self.self in
-    let b : get_or s.count c.in-Some.r.gate 0 ≤ most_width = back_count s (items c.pop.new.self) c.in-Some.r c.in-Some.ensures.0 in
+    let e = c.from-g.ensures in
+    let b : get_or s.count c.from-g.result 0 ≤ most_width = rw e (back_count s (items c.pop.new.self) c.in-Some.r c.in-Some.ensures.0) in
     search rules
 
 pub invariant_of-self : goal.invariant_of-self
@@ -44,9 +42,8 @@ invariant_of-self c =
     let ys = items c.pop.new.self in
     let r = c.in-Some.r in
     let p = c.in-Some.ensures in
-    let l = one_less (items s.trail) ys r p.0 in
-    back_kept s ys r p.0 (room c.pop.new.self) p.1 c.insert.new.self c.insert.ensures
-    (undo_top c.args.self.now s (omega arith) i.2 i.3 (length ys) (omega (arith, c.len.ensures)))
+    back_kept s ys r p.0 c.from-g.result c.from-g.ensures (room c.pop.new.self) p.1 c.insert.new.self c.insert.ensures
+    (undo_top c.args.self.now s (omega arith) i.2 i.3 (length ys) (omega (arith, c.len.ensures, one_less (items s.trail) ys r p.0)))
 
 pub loop-self-smaller-in-Some : goal.loop-self-smaller-in-Some
 loop-self-smaller-in-Some c = omega (arith, one_less (items c.loop-self.self.trail) (items c.pop.new.self) c.in-Some.r c.in-Some.ensures.0)

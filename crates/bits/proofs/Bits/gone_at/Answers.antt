@@ -1,44 +1,16 @@
-use Rattle.std.proofs.Common.{length, get_or, take, Some, Ok, sym, refl, ap, ◌∙◌, arith}
-use Rattle.std.proofs.lemmas.List.{length_push, take_all}
-use Rattle.bits.specs.Representation.{gone_in, bare}
-use Rattle.bits.proofs.Walks.{gone_next, gone_skip, gone_found}
+use Rattle.std.proofs.Common.{nat_eq, sym, ◌∙◌, rules}
+use borrow.Author.Tests.{tests}
+use Rattle.std.proofs.lemmas.Iterator.{YieldsList-from_slice, YieldsList-from_map}
+use Rattle.std.proofs.lemmas.Iterator.Consumers.{YieldsList-at, YieldsList-from_filter, nth_from_yields_List}
+use Rattle.std.proofs.lemmas.Iterator.Adapters.{option_map_id}
+use Rattle.bits.proofs.Facts.{on}
 use Rattle.bits.proofs.Bits.gone_at.Goals as goal
-use Rattle.bits.proofs.Bits.gone_at.Goals.{then-r-g+else-seen-k, else-r-g}
-
-pub returns-then-seen-k : goal.returns-then-seen-k
-returns-then-seen-k c =
-    let xs = c.entries-r-items.result.now in
-    let e = c.entries-r-items.ensures in
-    let f = gone_found c.args.g xs c.loop-r.r-index c.args.k c.loop-r-test.true c.if-r-g.true (sym c.if-seen-k.true ∙ c.loop-r.invariant.0) in
-    let same = ap (gone_in c.args.g) e in
-    record {
-      gate = λ h. absurd (omega arith);
-      beyond = λ _ h. absurd (omega (arith, f.0, ap length same));
-      answer = λ _ _. ap (λ x. Ok (Some x)) (sym f.1 ∙ ap (λ l. get_or l c.args.k 0) same);
-    }
-
-pub loop-r-preserved : goal.loop-r-preserved
-loop-r-preserved c =
-    let xs = c.entries-r-items.result.now in
-    elim c.if-r-g.branch [
-      | then-r-g+else-seen-k w ↦ (
-          let n = gone_next c.args.g xs c.loop-r.r-index c.loop-r-test.true w.if-r-g.true in (
-            omega (arith, w.seen-is, c.loop-r.invariant.0, ap length n, length_push (gone_in c.args.g (take c.loop-r.r-index xs)) (get_or xs c.loop-r.r-index bare).position),
-            omega (arith, w.seen-is, w.if-seen-k.false),
-            omega (arith, w.seen-is),
-          ))
-      | else-r-g w ↦ (
-          let n = gone_skip c.args.g xs c.loop-r.r-index c.loop-r-test.true w.if-r-g.false in
-          (omega (arith, w.seen-is, c.loop-r.invariant.0, ap length n), omega (arith, w.seen-is), omega (arith, w.seen-is)))
-    ]
 
 pub returns : goal.returns
 returns c =
-    let xs = c.entries-r-items.result.now in
-    let all = ap (gone_in c.args.g) (sym (take_all c.loop-r.r-index xs c.loop-r-test.false)) in
-    let same = ap (gone_in c.args.g) c.entries-r-items.ensures in
-    record {
-      gate = λ h. absurd (omega arith);
-      beyond = λ _ _. refl;
-      answer = λ _ h. absurd (omega (arith, c.loop-r.invariant.0, ap length all, ap length same));
-    }
+    sym (option_map_id c.nth.result)
+    ∙ nth_from_yields_List c.nth.result _ c.args.k c.nth.ensures.ran
+    (YieldsList-from_map _ (λ r. r.position)
+    (YieldsList-at c.map.ensures.source
+    (YieldsList-from_filter _ (λ r. nat_eq r.gate c.args.g) (YieldsList-from_slice (on c.args.self.now) cc) c.filter.ensures.closure (λ x r q k. search (rules, tests))))
+    c.map.ensures.closure (λ x r q k. search (rules, tests)))
