@@ -3,12 +3,12 @@ ghost use Rattle.std.specs.Prelude.{◌≡◌, ◌+◌, ◌-◌, ◌<◌, length
 ghost use Rattle.model.specs.Bounds.{most_gates, most_saves, readers};
 ghost use Rattle.book.specs.Notes.{blank, notes_in};
 
-use crate::{Book, Notes};
-use model::bounds::{GATES, READERS, SAVES};
+use crate::{Book, Lengths, Notes};
+use model::bounds::{READERS, SAVES};
 
 impl Book {
     /// Each reader has noted these gone lengths, and no save is open.
-    pub fn new(lengths: [u16; GATES]) -> Book
+    pub fn new(lengths: Lengths) -> Book
         ensures notes { result.notes.rows ≡ replicate readers lengths }
         ensures closed { result.depth ≡ 0 }
     {
@@ -59,7 +59,7 @@ impl Book {
     }
 
     /// A reader notes: its one entry is overwritten.
-    pub fn note(&mut self, r: usize, lengths: [u16; GATES])
+    pub fn note(&mut self, r: usize, lengths: Lengths)
         requires { r < readers }
         ensures notes { self.new.notes.rows ≡ slice_set self.old.notes.rows r lengths }
         ensures saved { self.new.saved ≡ self.old.saved }

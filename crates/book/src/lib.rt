@@ -8,14 +8,19 @@ use model::bounds::{GATES, READERS, SAVES};
 
 mod calls;
 
-/// For each reader and gate, how many positions had left the gate at the reader's note.
-#[derive(Clone, Copy)]
+/// For each gate, how many positions have left it.
+pub type Lengths = [u16; GATES];
+
+/// For each reader, the lengths at its note.
+// kept: a plain table behind a name, so that a save is one assignment and a note writes one entry; the memory is fixed.
+#[derive(Clone, Copy, Debug, PartialEq, Eq)]
 pub struct Notes {
-    rows: [[u16; GATES]; READERS],
+    rows: [Lengths; READERS],
 }
 
 /// The notes now, and the notes at each of the `depth` open saves, oldest first.
-#[derive(Drop)]
+// kept: a table with a depth beside it, as library crates allocate nothing; what lies past the depth is stale, so books have no `==`.
+#[derive(Drop, Debug)]
 pub struct Book {
     notes: Notes,
     saved: [Notes; SAVES],

@@ -1,12 +1,21 @@
 -- Rows of marks.
-use Rattle.std.proofs.Common.{◌≡◌, ℕ, zero, suc, ◌+◌, ◌-◌, ◌<◌, ◌≤◌, Bool, true, false, cond, ◌||◌, eqb, List, [], ◌∷◌, ◌++◌, length, get_or, take, drop, set, replicate, Some, None, sym, refl, ap, ◌∙◌, ⊎_elim, add-one, arith, length-append, length-drop}
-use Rattle.std.proofs.lemmas.List.{append_assoc, drop_more, get_or-set_same, get_or-set_other, get_or-drop, take_more}
+use Rattle.std.proofs.Common.{◌≡◌, ℕ, zero, suc, ◌+◌, ◌-◌, ◌<◌, ◌≤◌, Bool, true, false, cond, ◌||◌, eqb, List, [], ◌∷◌, ◌++◌, length, filter, get_or, take, drop, set, replicate, Some, None, Result, sym, refl, ap, ◌∙◌, ⊎_elim, add-one, arith, length-append, length-drop, take_all}
+use Rattle.std.specs.List.{range_with_len, list_all}
+use Rattle.std.specs.Result.{result_unwrap_or}
+use Rattle.std.proofs.lemmas.List.FromFn.{length-range_with_len, get_or-range_with_len}
+use Rattle.std.proofs.lemmas.List.Filters.{length-filter_more}
+use Rattle.std.proofs.lemmas.List.Sums.{AllPass-from_list_all, list_all-from_AllPass}
+use Rattle.std.proofs.lemmas.List.{append_assoc, drop_more, get_or-set_same, get_or-set_other, get_or-drop, get_or_past, take_more}
 use Rattle.std.proofs.lemmas.Bool.{eq-eqb, ne_eqb, cases_eq, cases_lt, or_right}
 use Rattle.model.specs.Families.{has}
 use Rattle.model.proofs.Meaning.{has_append}
 use Rattle.model.specs.Bounds.{most_width}
 use Rattle.model.specs.Ledgers.{ascending}
-use Rattle.lists.specs.Lists.{Written}
+use Rattle.model.specs.declared.refusal.Refusal.{Refusal}
+use Rattle.store.specs.Meaning.{Meaning, Sound}
+use Rattle.store.specs.Calls.{Count}
+use Rattle.store.proofs.Counts.{gone_short, left_is}
+use Rattle.lists.specs.Lists.{marked, Written}
 
 pub ascending_more : (w : ℕ) (t : ℕ → Bool) → ascending (w + 1) t ≡ ascending w t ++ cond (t w) (w ∷ []) []
 ascending_more w t = ap (λ (n : ℕ). ascending n t) (add-one w)
@@ -83,10 +92,51 @@ all_false zero p = refl
 all_false (suc n) zero = refl
 all_false (suc n) (suc p) = all_false n p
 
-pub all_zero : (n p : ℕ) → ◌≡◌ {A = ℕ} (get_or (replicate n 0) p 0) 0
-all_zero zero p = refl
-all_zero (suc n) zero = refl
-all_zero (suc n) (suc p) = all_zero n p
+-- how many places a row marks
+pub marked_count : (row : List Bool) (w : ℕ) → length (filter (λ b. b) (take w row)) ≡ length (marked row w)
+marked_count row zero = refl
+marked_count row (suc w) =
+    let i = marked_count row w in
+    let j : length (marked row (suc w)) ≡ length (marked row w) + length (cond (get_or row w false) (w ∷ []) []) = length-append (marked row w) (cond (get_or row w false) (w ∷ []) []) in
+    ap (λ (n : ℕ). length (filter (λ b. b) (take n row))) (sym (add-one w))
+    ∙ ⊎_elim
+    (λ (l : w < length row). let k = length-filter_more (λ b. b) row w false l in let o = one (get_or row w false) in omega arith)
+    (λ (l : length row ≤ w).
+    let k = ap (λ (xs : List Bool). length (filter (λ b. b) xs)) (take_all (w + 1) row (omega arith) ∙ sym (take_all w row l)) in
+    let o = ap (λ (b : Bool). length (cond b (w ∷ []) [])) (get_or_past row w false l) in
+    omega arith)
+    (cases_lt w (length row))
+  where
+    one : (b : Bool) → length (cond b (w ∷ []) []) ≡ cond b 1 0
+    one true = refl
+    one false = refl
+
+-- what a test of 0, 1, .. below w says
+pub all_range : (w : ℕ) (t : ℕ → Bool) → list_all t (range_with_len 0 w) ≡ true → (p : ℕ) → p < w → t p ≡ true
+all_range w t e p l = ap t (sym at) ∙ AllPass-from_list_all t (range_with_len 0 w) e p 0 (omega (arith, length-range_with_len 0 w))
+  where
+    at : get_or (range_with_len 0 w) p 0 ≡ p
+    at = get_or-range_with_len 0 w p 0 l ∙ (let z : 0 + p ≡ p = omega arith in z)
+
+pub range_all : (w : ℕ) (t : ℕ → Bool) → ((p : ℕ) → p < w → t p ≡ true) → list_all t (range_with_len 0 w) ≡ true
+range_all w t all = list_all-from_AllPass t (range_with_len 0 w) (λ p d l.
+    let k : p < w = omega (arith, l, length-range_with_len 0 w) in
+    ap t (get_or-range_with_len 0 w p d k ∙ (let z : 0 + p ≡ p = omega arith in z)) ∙ all p k)
+
+-- what is left to a gate, or the width where there is no such gate, and what has left it
+pub left_and_gone : (m : Meaning) (g : ℕ) (r : Result ℕ Refusal) → Sound m → Count m g r → result_unwrap_or r m.width + length (m.gone g) ≡ m.width
+left_and_gone m g r s k =
+    ⊎_elim
+    (λ (h : g < m.gates).
+    let e = ap (λ (x : Result ℕ Refusal). result_unwrap_or x m.width) (k.answer h) in
+    let left = left_is m s g h in
+    let short = gone_short m s g in
+    omega arith)
+    (λ (h : m.gates ≤ g).
+    let e = ap (λ (x : Result ℕ Refusal). result_unwrap_or x m.width) (k.gate h) in
+    let none = ap length (s.outside g h) in
+    omega arith)
+    (cases_lt g m.gates)
 
 -- what a written list says
 pub written_some : (xs list : List ℕ) (n : ℕ) (after : List ℕ) → Written xs list (Some n) after

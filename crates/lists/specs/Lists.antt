@@ -1,7 +1,13 @@
 -- What is written into a caller's list, and when two stores have the same open.
-use Rattle.std.specs.Prelude.{◌≡◌, ℕ, ◌<◌, ◌≤◌, Bool, true, false, List, ◌++◌, length, drop, Some, None, Option, slice_index_or}
+use Rattle.std.specs.Prelude.{◌≡◌, ℕ, ◌<◌, ◌≤◌, Bool, false, List, ◌++◌, length, drop, Some, None, Option, slice_index_or}
+use Rattle.std.specs.List.{list_all, range_with_len}
+use Rattle.std.specs.Bool.{beq}
 use Rattle.model.specs.Ledgers.{ascending}
 use Rattle.store.specs.Meaning.{Meaning, domains}
+
+-- of the numbers below w the row marks those that pass the test
+abbrev pub Marks : List Bool → ℕ → (ℕ → Bool) → Type 0
+Marks row w test = (p : ℕ) → p < w → slice_index_or row p false ≡ test p
 
 -- the numbers below w that a row marks, ascending
 abbrev pub marked : List Bool → ℕ → List ℕ
@@ -12,14 +18,10 @@ pub record Written (xs list : List ℕ) (r : Option ℕ) (after : List ℕ) : Ty
   pub fits : length xs ≤ length list → (r ≡ Some (length xs)) × (after ≡ xs ++ drop (length xs) list)
   pub short : length list < length xs → (r ≡ None) × (after ≡ list)
 
--- an answer of yes or no
-pub record Says (b : Bool) (P : Type 0) : Type 0 where
-  pub holds : b ≡ true → P
-  pub fails : b ≡ false → P → ⊥
+-- is the same open to the gate in both?
+abbrev pub alike_at : Meaning → Meaning → ℕ → Bool
+alike_at m n g = list_all (λ p. beq (domains m g p) (domains n g p)) (range_with_len 0 m.width)
 
--- at one gate
-abbrev pub AlikeAt : Meaning → Meaning → ℕ → Type 0
-AlikeAt m n g = (p : ℕ) → p < m.width → domains m g p ≡ domains n g p
-
-abbrev pub Alike : Meaning → Meaning → Type 0
-Alike m n = (g : ℕ) → g < m.gates → AlikeAt m n g
+-- is the same open to every gate of the first in both?
+abbrev pub alike : Meaning → Meaning → Bool
+alike m n = list_all (alike_at m n) (range_with_len 0 m.gates)

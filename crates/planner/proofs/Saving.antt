@@ -1,24 +1,28 @@
 -- Save and restore: the store's marks with the notes saved beside them.
-use Rattle.std.proofs.Common.{◌≡◌, ℕ, suc, ◌+◌, ◌-◌, ◌<◌, ◌≤◌, ltb, ◌≢◌, List, [], ◌∷◌, length, get_or, set, None, Ok, Err, Result, sym, refl, ap, ◌∙◌, subst, ap₂, arith}
+use Rattle.std.proofs.Common.{◌≡◌, ℕ, suc, ◌+◌, ◌-◌, ◌<◌, ◌≤◌, ltb, ◌≢◌, List, [], ◌∷◌, length, get_or, set, Some, None, Ok, Err, Option, Result, sym, refl, ap, ◌∙◌, subst, ap₂, arith}
 use Rattle.std.proofs.lemmas.List.{get_or-set_same, get_or-set_other}
 use Rattle.std.proofs.lemmas.Bool.{lt-ltb, le-ltb}
 use Rattle.model.specs.declared.refusal.Refusal.{Refusal}
 use Rattle.model.specs.declared.refusal.Refusal.TheVariants.{TooManySaves, NoSave}
 use Rattle.model.specs.Bounds.{most_saves}
-use Rattle.model.specs.Plans.{Plan}
+use Rattle.model.specs.Plans.{Plan, Load}
 use Rattle.model.specs.Calls.{save, restore}
 use Rattle.model.specs.Planners.{Save, Saved, Restored}
 use Rattle.model.specs.Answers.{Answer, numbers}
 use Rattle.store.specs.Meaning as store
 use Rattle.store.specs.Meaning.{Meaning, cut}
 use Rattle.store.specs.Calls as call
-use Rattle.store.proofs.Accepted.{save_ok, restore_ok}
+use Rattle.store.specs.declared.Store.{Ghosts}
+use Rattle.store.proofs.Accepted.{not_both, save_ok, restore_ok}
 use Rattle.book.specs.declared.Notes.{Notes}
 use Rattle.book.specs.declared.Book.{Book}
+use Rattle.plan.specs.declared.Plan.{Plan as Read}
 use Rattle.planner.specs.declared.Planner.{Planner as Held}
 use Rattle.book.specs.Notes.{blank, notes_in}
-use Rattle.planner.specs.States.{view, state, saves_of, Makes}
+use Rattle.planner.specs.Holdings.{HoldsGiven}
+use Rattle.planner.specs.States.{loaded, view, state, saves_of}
 use Rattle.planner.proofs.Narrowing.{told, unless_true, unless_false}
+use Rattle.planner.proofs.Holding.{Leaves}
 
 saves_set : (ks : List (ℕ → ℕ)) (table : List Notes) (i : ℕ) (x : Notes) → length ks ≤ i → saves_of ks (set table i x) ≡ saves_of ks table
 saves_set [] table i x h = refl
@@ -90,62 +94,91 @@ tells a b e = ap {B = Answer} (λ (x : ℕ). numbers (x ∷ [])) e
 ok_is : (a b : ℕ) → ◌≡◌ {A = Result ℕ Refusal} (Ok a) (Ok b) → a ≡ b
 ok_is a b e = cc
 
-module _ {S : Type 0} (mean : S → Meaning) (right : S → Type 0) (p : Held S) (store' : S) (keeps : right p.store → right store') (book : Book) (many : ℕ) where
-  abbrev q : Held S
-  q = record { store = store'; plan = p.plan; book = book }
+-- a mark more, and a mark fewer
+pub saved_held : (m m' : Meaning) (read : Option Read) (saves saves' many : ℕ) → call.Save m (Ok many) m' → saves' ≡ saves + 1 → HoldsGiven m read saves → HoldsGiven m' read saves'
+saved_held m m' read saves saves' many k d h load e =
+    let so = h load e in
+    let ok = save_ok m m' many k in
+    let long : length m'.marks ≡ length m.marks + 1 = omega (arith, ap (λ (x : Meaning). length x.marks) ok.2) in
+    record {
+      sound = so.sound;
+      gates = ap (λ (x : Meaning). x.gates) ok.2 ∙ so.gates;
+      width = ap (λ (x : Meaning). x.width) ok.2 ∙ so.width;
+      marks = omega (arith, so.marks);
+    }
 
-  pub save_makes : call.Save (mean p.store) (Ok many) (mean store') → p.book.depth < most_saves → book.notes ≡ p.book.notes
-      → book.saved ≡ set p.book.saved p.book.depth p.book.notes → book.depth ≡ p.book.depth + 1 → Makes mean right p save told (Ok many) q
-  save_makes k room n t d load h =
-      let m = mean p.store in
-      let ok = save_ok m (mean store') many k in
-      let long : length (mean store').marks ≡ length m.marks + 1 = omega (arith, ap (λ (x : Meaning). length x.marks) ok.2) in
+pub restored_held : (m m' : Meaning) (read : Option Read) (saves saves' many : ℕ) → call.Restore m (Ok many) m' → 0 < saves → saves' ≡ saves - 1 → HoldsGiven m read saves → HoldsGiven m' read saves'
+restored_held m m' read saves saves' many k some d h load e =
+    let so = h load e in
+    let ok = restore_ok m m' many k in
+    let one : saves - 1 + 1 ≡ length m.marks = omega (arith, so.marks) in
+    record {
+      sound = so.sound;
+      gates = ap (λ (x : Meaning). x.gates) ok.2 ∙ cut_gates m m.marks ∙ so.gates;
+      width = ap (λ (x : Meaning). x.width) ok.2 ∙ cut_width m m.marks ∙ so.width;
+      marks = d ∙ sym (ap (λ (x : Meaning). length x.marks) ok.2 ∙ restored_fewer m (saves - 1) one);
+    }
+
+-- a planner before a save or a restore and after it
+module _ {S : Type 0} {g : Ghosts S} (p : Held S g) (store : S) (book : Book) (many : ℕ) where
+  pub save_makes : call.Save (g.mean p.store) (Ok many) (g.mean store) → p.book.depth < most_saves → book.notes ≡ p.book.notes
+      → book.saved ≡ set p.book.saved p.book.depth p.book.notes → Leaves p save told (Ok many) store book
+  save_makes k room n t load e =
+      let h = p.held load e in
+      let m = g.mean p.store in
+      let ok = save_ok m (g.mean store) many k in
+      let long : length (g.mean store).marks ≡ length m.marks + 1 = omega (arith, ap (λ (x : Meaning). length x.marks) ok.2) in
       let few = p.book.few in (
-        record {
-          given = h.given;
-          sound = h.sound;
-          gates = ap (λ (x : Meaning). x.gates) ok.2 ∙ h.gates;
-          width = ap (λ (x : Meaning). x.width) ok.2 ∙ h.width;
-          store = keeps h.store;
-          marks = omega (arith, h.marks);
-        },
+        e,
         (
-          unless_true (ltb (length (state mean p).saves) most_saves) TooManySaves None
-              (lt-ltb (length (state mean p).saves) most_saves (omega (arith, h.marks, saves_length m.marks p.book.saved))),
-          save_done load.plan m p.book.notes p.book.saved p.book.depth h.marks (omega (arith, few.1)) (mean store') ok.2 book.notes n book.saved t,
-          tells many (length (state mean q).saves) (ok_is many (length m.marks + 1) ok.1 ∙ sym long ∙ sym (saves_length (mean store').marks book.saved)),
+          unless_true (ltb (length (state p).saves) most_saves) TooManySaves None
+              (lt-ltb (length (state p).saves) most_saves (omega (arith, h.marks, saves_length m.marks p.book.saved))),
+          save_done load.plan m p.book.notes p.book.saved p.book.depth h.marks (omega (arith, few.1)) (g.mean store) ok.2 book.notes n book.saved t,
+          tells many (length (view (g.mean store) book.notes.rows book.saved).saves) (ok_is many (length m.marks + 1) ok.1 ∙ sym long ∙ sym (saves_length (g.mean store).marks book.saved)),
         ),
       )
 
-  pub restore_makes : call.Restore (mean p.store) (Ok many) (mean store') → 0 < p.book.depth → book.notes ≡ get_or p.book.saved (p.book.depth - 1) blank
-      → book.saved ≡ p.book.saved → book.depth ≡ p.book.depth - 1 → Makes mean right p restore told (Ok many) q
-  restore_makes k some n t d load h =
-      let m = mean p.store in
-      let ok = restore_ok m (mean store') many k in
+  pub restore_makes : call.Restore (g.mean p.store) (Ok many) (g.mean store) → 0 < p.book.depth → book.notes ≡ get_or p.book.saved (p.book.depth - 1) blank
+      → book.saved ≡ p.book.saved → Leaves p restore told (Ok many) store book
+  restore_makes k some n t load e =
+      let h = p.held load e in
+      let m = g.mean p.store in
+      let ok = restore_ok m (g.mean store) many k in
       let one : p.book.depth - 1 + 1 ≡ length m.marks = omega (arith, h.marks) in
-      let long : length (mean store').marks ≡ p.book.depth - 1 = ap (λ (x : Meaning). length x.marks) ok.2 ∙ restored_fewer m (p.book.depth - 1) one in (
-        record {
-          given = h.given;
-          sound = h.sound;
-          gates = ap (λ (x : Meaning). x.gates) ok.2 ∙ cut_gates m m.marks ∙ h.gates;
-          width = ap (λ (x : Meaning). x.width) ok.2 ∙ cut_width m m.marks ∙ h.width;
-          store = keeps h.store;
-          marks = d ∙ sym long;
-        },
+      let long : length (g.mean store).marks ≡ p.book.depth - 1 = ap (λ (x : Meaning). length x.marks) ok.2 ∙ restored_fewer m (p.book.depth - 1) one in (
+        e,
         (
-          unless_true (ltb 0 (length (state mean p).saves)) NoSave None (lt-ltb 0 (length (state mean p).saves) (omega (arith, h.marks, saves_length m.marks p.book.saved))),
-          restore_done load.plan m p.book.notes p.book.saved (p.book.depth - 1) one (mean store') ok.2 book.notes n book.saved t,
-          tells many (length (state mean q).saves)
-              (ok_is many (length m.marks - 1) ok.1 ∙ (let z : length m.marks - 1 ≡ p.book.depth - 1 = omega arith in z) ∙ sym long ∙ sym (saves_length (mean store').marks book.saved)),
+          unless_true (ltb 0 (length (state p).saves)) NoSave None (lt-ltb 0 (length (state p).saves) (omega (arith, h.marks, saves_length m.marks p.book.saved))),
+          restore_done load.plan m p.book.notes p.book.saved (p.book.depth - 1) one (g.mean store) ok.2 book.notes n book.saved t,
+          tells many (length (view (g.mean store) book.notes.rows book.saved).saves)
+              (ok_is many (length m.marks - 1) ok.1 ∙ (let z : length m.marks - 1 ≡ p.book.depth - 1 = omega arith in z) ∙ sym long ∙ sym (saves_length (g.mean store).marks book.saved)),
         ),
       )
 
-pub save_refused : {S : Type 0} (mean : S → Meaning) (right : S → Type 0) (p : Held S) → most_saves ≤ p.book.depth → Makes mean right p save told (Err TooManySaves) p
-save_refused mean right p full load h = (
-  h,
-  (
-    unless_false (ltb (length (state mean p).saves) most_saves) TooManySaves None
-        (le-ltb (length (state mean p).saves) most_saves (omega (arith, h.marks, saves_length (mean p.store).marks p.book.saved))),
-    refl,
-  ),
-)
+-- where all saves are open, and where none is
+module _ {S : Type 0} {g : Ghosts S} (p : Held S g) where
+  pub save_refused : most_saves ≤ p.book.depth → Leaves p save told (Err TooManySaves) p.store p.book
+  save_refused full load e = (
+    e,
+    (
+      unless_false (ltb (length (state p).saves) most_saves) TooManySaves None
+          (le-ltb (length (state p).saves) most_saves (omega (arith, (p.held load e).marks, saves_length (g.mean p.store).marks p.book.saved))),
+      refl,
+    ),
+  )
+
+  pub restore_refused : p.book.depth ≡ 0 → Leaves p restore told (Err NoSave) p.store p.book
+  restore_refused none load e = (
+    e,
+    (
+      unless_false (ltb 0 (length (state p).saves)) NoSave None
+          (le-ltb 0 (length (state p).saves) (omega (arith, (p.held load e).marks, saves_length (g.mean p.store).marks p.book.saved))),
+      refl,
+    ),
+  )
+
+  -- the store has a mark for each save that the book has room for
+  pub save_taken : (k : Refusal) (store : S) → call.Save (g.mean p.store) (Err k) (g.mean store) → p.book.depth < most_saves → (load : Load) → loaded p ≡ Some load → ⊥
+  save_taken k store d room load e =
+      let h = p.held load e in
+      not_both (length (g.mean p.store).marks + 1) k (sym (d.done (omega (arith, h.marks))).0)

@@ -1,3 +1,5 @@
+pub mod Holdings
+pub mod Checks
 pub mod States
 pub mod Lists
 pub mod Loads

@@ -1,20 +1,22 @@
 // A store begins with a plan: its gates and positions, and what each gate starts with.
-ghost use Rattle.std.specs.Prelude.{◌≡◌, ℕ, ◌<◌, false, is_ok, Ok, slice_index_or};
+ghost use Rattle.std.specs.Prelude.{◌≡◌, ◌<◌, false, is_ok, Ok};
 ghost use Rattle.model.specs.Bounds.{most_width};
 ghost use Rattle.plan.specs.Views.{load_of};
+ghost use Rattle.lists.specs.Lists.{Marks};
 ghost use Rattle.planner.specs.Loads.{Starts, Begun, begin_answer};
 
-use lists::rows::write_marked;
+use lists::rows::{Row, write_marked};
 use model::bounds::WIDTH;
 use model::refusal::Refusal;
 use plan::Plan;
 use store::Store;
 
 /// Marks the positions that the gate starts with.
-fn start_row(plan: &Plan, g: usize) -> [bool; WIDTH]
-    ensures { (p : ℕ) → p < most_width → slice_index_or result p false ≡ (load_of plan.now).start g p }
+fn start_row(plan: &Plan, g: usize) -> Row
+    ensures { Marks result most_width ((load_of plan.now).start g) }
 {
     let mut row = [false; WIDTH];
+    // kept: a loop; array::from_fn at this many places was proved only by a proof file, where a wrong gate would be refused first.
     for p in 0..WIDTH {
         row[p] = plan.starts_with(g, p);
     }
@@ -23,26 +25,21 @@ fn start_row(plan: &Plan, g: usize) -> [bool; WIDTH]
 
 /// Keeps the positions that the gate starts with.
 fn keep_starts<S: Store>(store: &mut S, plan: &Plan, g: usize)
-    ensures kept { g < (S.Store.mean store.old).gates → Starts (S.Store.mean store.old) g ((load_of plan.now).start g) (S.Store.mean store.new) }
-    ensures good { S.Store.good store.old → S.Store.good store.new }
+    ensures { g < (S.mean store.old).gates → Starts (S.mean store.old) g ((load_of plan.now).start g) (S.mean store.new) }
 {
     let row = start_row(plan, g);
+    // The list has a place for every position, so they are always written.
     let mut list = [0; WIDTH];
-    match write_marked(&row, store.width(), &mut list) {
-        Some(many) => {
-            let _ = store.keep(g, &list[..many]);
-        }
-        // The list has a place for every position, so this does not come.
-        None => {}
+    if let Some(many) = write_marked(&row, store.width(), &mut list) {
+        let _ = store.keep(g, &list[..many]);
     }
 }
 
 /// Resets the store to the plan's gates and positions, and keeps what each gate starts with.
 pub fn begin<S: Store>(store: &mut S, plan: &Plan) -> Result<(), Refusal>
-    ensures answer { result ≡ begin_answer (S.Store.mean store.old).cells (load_of plan.now) }
+    ensures answer { result ≡ begin_answer (S.mean store.old).cells (load_of plan.now) }
     ensures whole { is_ok result ≡ false → store.new ≡ store.old }
-    ensures begun { result ≡ Ok tt → Begun (load_of plan.now) (S.Store.mean store.new) }
-    ensures good { result ≡ Ok tt → S.Store.good store.new }
+    ensures begun { result ≡ Ok tt → Begun (load_of plan.now) (S.mean store.new) }
 {
     let n = plan.gates();
     store.reset(n, plan.width() as u16)?;

@@ -1,11 +1,14 @@
 // The planner: a plan, a store that holds the domains, and the notes of the readers.
 #![tactic(auto)]
 
+ghost use Rattle.planner.specs.Holdings.{HoldsGiven, HoldsGiven-prop};
+
 use book::Book;
 use plan::Plan;
 use store::Store;
 
 mod begin;
+mod checks;
 mod load;
 mod narrow;
 mod questions;
@@ -18,4 +21,5 @@ pub struct Planner<S: Store> {
     store: S,
     plan: Option<Plan>,
     book: Book,
+    ghost held: { HoldsGiven (S.mean store) plan book.depth } by { HoldsGiven-prop (S.mean store) plan book.depth },
 }

@@ -1,8 +1,9 @@
 // A planner is made, and loads a plan.
-ghost use Rattle.std.specs.Prelude.{◌≡◌, true, false, is_ok, None, Ok};
+ghost use Rattle.std.specs.Prelude.{◌≡◌, true, false, is_ok, Some, None, Ok};
+ghost use Rattle.model.specs.Plans.{SoundLoad};
 ghost use Rattle.plan.specs.Plans.{Reading, plan_text};
 ghost use Rattle.model.specs.Planners.{Loaded as JustLoaded};
-ghost use Rattle.planner.specs.States.{loaded, state, Holds};
+ghost use Rattle.planner.specs.States.{loaded, state};
 ghost use Rattle.planner.specs.Loads.{load_answer, Within};
 
 use crate::Planner;
@@ -30,16 +31,14 @@ impl<S: Store> Planner<S> {
 
     /// Reads a plan text, resets the store to it, notes all readers and closes all saves; answers the bytes read.
     pub fn load(&mut self, text: &[u8]) -> Result<usize, Fault>
-        ensures answer { result ≡ load_answer (S.Store.mean self.old.store).cells (plan_text text.now) }
+        ensures answer { result ≡ load_answer (S.mean self.old.store).cells (plan_text text.now) }
         ensures within { Within text.now result }
         ensures whole { is_ok result ≡ false → self.new ≡ self.old }
-        ensures made { (x : Reading) → plan_text text.now ≡ Ok x → is_ok result ≡ true → Holds S.Store.mean S.Store.good self.new x.load × JustLoaded x.load (state S.Store.mean self.new) }
+        ensures made { (x : Reading) → plan_text text.now ≡ Ok x → is_ok result ≡ true → (loaded self.new ≡ Some x.load) × SoundLoad x.load × JustLoaded x.load (state self.new) }
     {
         let found = read_plan(text)?;
         let plan = found.plan;
-        if let Err(refusal) = begin(&mut self.store, &plan) {
-            return Err(Fault { refusal, place: 0 });
-        }
+        begin(&mut self.store, &plan).map_err(|refusal| Fault { refusal, place: 0 })?;
         self.book = Book::new(gone_lengths(&self.store));
         self.plan = Some(plan);
         Ok(found.read)

@@ -14,11 +14,9 @@ impl<S: Store> Planner<S> {
     pub fn strike(&mut self, g: usize, p: u16) -> Result<u16, Refusal>
         ensures unloaded { loaded self.old ≡ None → result ≡ Err NoPlan }
         ensures whole { is_ok result ≡ false → self.new ≡ self.old }
-        ensures made { Makes S.Store.mean S.Store.good self.old (narrow (strike g p)) (λ a. numbers (a ∷ [])) result self.new }
+        ensures made { Makes self.old (narrow (strike g p)) (λ a. numbers (a ∷ [])) result self.new }
     {
-        if self.plan.is_none() {
-            return Err(Refusal::NoPlan);
-        }
+        self.check_loaded()?;
         self.strike_loaded(g, p)
     }
 
@@ -26,11 +24,9 @@ impl<S: Store> Planner<S> {
     pub fn bind(&mut self, g: usize, p: u16) -> Result<u16, Refusal>
         ensures unloaded { loaded self.old ≡ None → result ≡ Err NoPlan }
         ensures whole { is_ok result ≡ false → self.new ≡ self.old }
-        ensures made { Makes S.Store.mean S.Store.good self.old (narrow (bind g p)) (λ a. numbers (a ∷ [])) result self.new }
+        ensures made { Makes self.old (narrow (bind g p)) (λ a. numbers (a ∷ [])) result self.new }
     {
-        if self.plan.is_none() {
-            return Err(Refusal::NoPlan);
-        }
+        self.check_loaded()?;
         self.bind_loaded(g, p)
     }
 
@@ -38,11 +34,9 @@ impl<S: Store> Planner<S> {
     pub fn keep(&mut self, g: usize, list: &[u16]) -> Result<u16, Refusal>
         ensures unloaded { loaded self.old ≡ None → result ≡ Err NoPlan }
         ensures whole { is_ok result ≡ false → self.new ≡ self.old }
-        ensures made { Makes S.Store.mean S.Store.good self.old (narrow (keep g list.now)) (λ a. numbers (a ∷ [])) result self.new }
+        ensures made { Makes self.old (narrow (keep g list.now)) (λ a. numbers (a ∷ [])) result self.new }
     {
-        if self.plan.is_none() {
-            return Err(Refusal::NoPlan);
-        }
+        self.check_loaded()?;
         self.keep_loaded(g, list)
     }
 }
@@ -51,21 +45,21 @@ impl<S: Store> Planner<S> {
 impl<S: Store> Planner<S> {
     fn strike_loaded(&mut self, g: usize, p: u16) -> Result<u16, Refusal>
         ensures whole { is_ok result ≡ false → self.new ≡ self.old }
-        ensures made { Makes S.Store.mean S.Store.good self.old (narrow (strike g p)) (λ a. numbers (a ∷ [])) result self.new }
+        ensures made { Makes self.old (narrow (strike g p)) (λ a. numbers (a ∷ [])) result self.new }
     {
         self.store.strike(g, p)
     }
 
     fn bind_loaded(&mut self, g: usize, p: u16) -> Result<u16, Refusal>
         ensures whole { is_ok result ≡ false → self.new ≡ self.old }
-        ensures made { Makes S.Store.mean S.Store.good self.old (narrow (bind g p)) (λ a. numbers (a ∷ [])) result self.new }
+        ensures made { Makes self.old (narrow (bind g p)) (λ a. numbers (a ∷ [])) result self.new }
     {
         self.store.bind(g, p)
     }
 
     fn keep_loaded(&mut self, g: usize, list: &[u16]) -> Result<u16, Refusal>
         ensures whole { is_ok result ≡ false → self.new ≡ self.old }
-        ensures made { Makes S.Store.mean S.Store.good self.old (narrow (keep g list.now)) (λ a. numbers (a ∷ [])) result self.new }
+        ensures made { Makes self.old (narrow (keep g list.now)) (λ a. numbers (a ∷ [])) result self.new }
     {
         self.store.keep(g, list)
     }

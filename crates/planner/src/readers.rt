@@ -8,8 +8,8 @@ ghost use Rattle.planner.specs.States.{loaded, Makes};
 ghost use Rattle.planner.specs.Lists.{Asks, Fits};
 
 use crate::Planner;
+use crate::checks::check_reader;
 use lists::rows::{gone_lengths, gone_since, write_marked};
-use model::bounds::READERS;
 use model::refusal::Refusal;
 use store::Store;
 
@@ -18,14 +18,10 @@ impl<S: Store> Planner<S> {
     pub fn note(&mut self, r: usize) -> Result<(), Refusal>
         ensures unloaded { loaded self.old ≡ None → result ≡ Err NoPlan }
         ensures whole { is_ok result ≡ false → self.new ≡ self.old }
-        ensures made { Makes S.Store.mean S.Store.good self.old (note r) (λ _. numbers []) result self.new }
+        ensures made { Makes self.old (note r) (λ _. numbers []) result self.new }
     {
-        if self.plan.is_none() {
-            return Err(Refusal::NoPlan);
-        }
-        if r >= READERS {
-            return Err(Refusal::NoReader);
-        }
+        self.check_loaded()?;
+        check_reader(r)?;
         let lengths = gone_lengths(&self.store);
         self.book.note(r, lengths);
         Ok(())
@@ -36,22 +32,13 @@ impl<S: Store> Planner<S> {
         ensures unloaded { loaded self.now ≡ None → result ≡ Err NoPlan }
         ensures refused { is_ok result ≡ false → list.new ≡ list.old }
         ensures fits { Fits list.old result }
-        ensures asked { Asks S.Store.mean S.Store.good self.now (changes r g (length list.old)) (λ plan s. changed plan s r g) list.old result list.new }
+        ensures asked { Asks self.now (changes r g (length list.old)) (λ plan s. changed plan s r g) list.old result list.new }
     {
-        if self.plan.is_none() {
-            return Err(Refusal::NoPlan);
-        }
-        if r >= READERS {
-            return Err(Refusal::NoReader);
-        }
-        if g >= self.store.gates() {
-            return Err(Refusal::NoGate);
-        }
-        let from = self.book.noted(r, g) as usize;
+        self.check_loaded()?;
+        check_reader(r)?;
+        self.store.check_gate(g)?;
+        let from = usize::from(self.book.noted(r, g));
         let row = gone_since(&self.store, g, from);
-        match write_marked(&row, self.store.width(), list) {
-            Some(n) => Ok(n),
-            None => Err(Refusal::ListTooShort),
-        }
+        write_marked(&row, self.store.width(), list).ok_or(Refusal::ListTooShort)
     }
 }

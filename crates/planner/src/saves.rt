@@ -14,11 +14,9 @@ impl<S: Store> Planner<S> {
     pub fn save(&mut self) -> Result<u16, Refusal>
         ensures unloaded { loaded self.old ≡ None → result ≡ Err NoPlan }
         ensures whole { is_ok result ≡ false → self.new ≡ self.old }
-        ensures made { Makes S.Store.mean S.Store.good self.old save (λ a. numbers (a ∷ [])) result self.new }
+        ensures made { Makes self.old save (λ a. numbers (a ∷ [])) result self.new }
     {
-        if self.plan.is_none() {
-            return Err(Refusal::NoPlan);
-        }
+        self.check_loaded()?;
         if !self.book.has_room() {
             return Err(Refusal::TooManySaves);
         }
@@ -31,11 +29,9 @@ impl<S: Store> Planner<S> {
     pub fn restore(&mut self) -> Result<u16, Refusal>
         ensures unloaded { loaded self.old ≡ None → result ≡ Err NoPlan }
         ensures whole { is_ok result ≡ false → self.new ≡ self.old }
-        ensures made { Makes S.Store.mean S.Store.good self.old restore (λ a. numbers (a ∷ [])) result self.new }
+        ensures made { Makes self.old restore (λ a. numbers (a ∷ [])) result self.new }
     {
-        if self.plan.is_none() {
-            return Err(Refusal::NoPlan);
-        }
+        self.check_loaded()?;
         if !self.book.has_save() {
             return Err(Refusal::NoSave);
         }

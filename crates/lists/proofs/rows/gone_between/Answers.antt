@@ -16,13 +16,13 @@ loop-k-init g c =
 pub gone_at-p-requires : goal.gone_at-p-requires
 gone_at-p-requires g c = record { gate = c.requires.gate; place = omega (arith, c.requires.end) }
 
-pub bounds-row-p : goal.bounds-row-p
-bounds-row-p g c =
+pub bounds-row-from : goal.bounds-row-from
+bounds-row-from g c =
     let m = g.S.Store.mean c.args.store.now in
     let s = g.S.Store.sound c.args.store.now in
     let l = c.requires.end in
     let b = all_below_at m.width (m.gone c.args.g) (s.below c.args.g) c.loop-k.k (omega arith) in
-    omega (arith, s.few_positions, c.gone_at-p.ensures)
+    omega (arith, s.few_positions, c.gone_at-p.ensures, c.from.ensures)
 
 pub loop-k-preserved : goal.loop-k-preserved
 loop-k-preserved g c =
@@ -32,10 +32,10 @@ loop-k-preserved g c =
     let l = c.requires.end in
     let inside : c.loop-k.k < length xs = omega arith in
     let b = all_below_at m.width xs (s.below c.args.g) c.loop-k.k inside in (
-      length-set c.loop-k.row c.gone_at-p.result true ∙ c.loop-k.invariant.0,
+      length-set c.loop-k.row c.from.result true ∙ c.loop-k.invariant.0,
       omega arith,
       λ p h.
-          ap (λ (v : ℕ). get_or (set c.loop-k.row v true) p false) c.gone_at-p.ensures
+          ap (λ (v : ℕ). get_or (set c.loop-k.row v true) p false) (c.from.ensures ∙ c.gone_at-p.ensures)
           ∙ mark_more c.loop-k.row xs c.args.from c.loop-k.k c.loop-k.invariant.0 c.loop-k.invariant.1 inside (omega (arith, s.few_positions)) c.loop-k.invariant.2 p h,
     )
 

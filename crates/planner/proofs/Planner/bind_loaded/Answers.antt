@@ -1,14 +1,20 @@
-use Rattle.std.proofs.Common.{ap}
-use Rattle.planner.specs.declared.Planner.{Planner as Held}
-use Rattle.planner.proofs.Narrowing.{bind_step}
-use Rattle.planner.proofs.Holding.{step_makes}
+use Rattle.std.proofs.Common.{refl}
+use Rattle.model.specs.Calls.{bind}
+use Rattle.planner.proofs.Narrowing.{Step, bind_step}
+use Rattle.planner.proofs.Holding.{step_held, step_makes, same_planner}
 use Rattle.planner.proofs.Planner.bind_loaded.Goals as goal
+use Rattle.planner.proofs.Planner.bind_loaded.Goals.{After-bind}
 
-pub returns : goal.returns
-returns g c =
+step : (g : _) (c : goal.After-bind g) → Step (g.S.Store.mean c.args.self.now.store) (bind c.args.g c.args.p) c.bind.result (g.S.Store.mean c.bind.new.self)
+step g c = bind_step (g.S.Store.mean c.args.self.now.store) c.args.g c.args.p c.bind.result (g.S.Store.mean c.bind.new.self) (g.S.Store.sound c.bind.new.self) c.bind.ensures.meant
+
+pub invariant_of-self : goal.invariant_of-self
+invariant_of-self g c =
     let p = c.args.self.now in
-    let step = bind_step (g.S.Store.mean p.store) c.args.g c.args.p c.bind.result (g.S.Store.mean c.bind.new.self) (g.S.Store.sound c.bind.new.self) c.bind.ensures.meant in
-    record {
-      whole = λ e. ap {B = Held _} (λ x. record { store = x; plan = p.plan; book = p.book }) (c.bind.ensures.whole e);
-      made = step_makes g.S.Store.mean g.S.Store.good p c.bind.new.self _ c.bind.result step c.bind.ensures.good;
-    }
+    record { held = step_held (g.S.Store.mean p.store) (g.S.Store.mean c.bind.new.self) p.plan p.book.depth (bind c.args.g c.args.p) c.bind.result (step g c) p.held }
+
+pub returns-clause-whole : goal.returns-clause-whole
+returns-clause-whole g c = λ e. same_planner c.args.self.now _ (c.bind.ensures.whole e) refl refl
+
+pub returns-clause-made : goal.returns-clause-made
+returns-clause-made g c = step_makes c.args.self.now c.bind.new.self (bind c.args.g c.args.p) c.bind.result (step g (goal.at.returns-clause-made g c).After-bind)

@@ -1,17 +1,15 @@
-use Rattle.std.proofs.Common.{◌<◌, true, length, refl, arith}
-use Rattle.std.proofs.lemmas.Bool.{both_ways}
-use Rattle.planner.proofs.Holding.{no_plan}
+use Rattle.std.proofs.Common.{refl, sym, subst}
+use Rattle.planner.specs.Holdings.{HoldsGiven}
 use Rattle.planner.proofs.Asking.{note_makes}
 use Rattle.planner.proofs.Planner.note.Goals as goal
 
-pub returns : goal.returns
-returns g c =
+pub invariant_of-self : goal.invariant_of-self
+invariant_of-self g c =
+    let p = c.args.self.now in
+    record { held = subst (HoldsGiven (g.S.Store.mean p.store) p.plan) (sym c.note.ensures.depth) p.held }
+
+pub returns-clause-made : goal.returns-clause-made
+returns-clause-made g c =
     let p = c.args.self.now in
     let noted = c.note.ensures in
-    let long : c.args.r < length p.book.notes.rows = omega (arith, noted.long) in
-    record {
-      unloaded = λ e. absurd (no_plan p.plan c.if-is_none.ensures e);
-      whole = λ e. absurd (both_ways true e refl);
-      made = note_makes g.S.Store.mean g.S.Store.good p c.note.new.self c.args.r c.gone_lengths-lengths.result noted.notes noted.saved noted.depth (omega arith) long
-          c.gone_lengths-lengths.ensures;
-    }
+    note_makes p c.note.new.self c.args.r c.gone_lengths-lengths.result noted.notes noted.saved (c.in_ok-check_reader.ensures.there refl) noted.long c.gone_lengths-lengths.ensures

@@ -1,24 +1,27 @@
-use Rattle.std.proofs.Common.{◌≡◌, sym, refl, ap, ◌∙◌}
-use Rattle.model.specs.Families.{Family}
-use Rattle.planner.proofs.Holding.{no_plan}
-use Rattle.planner.proofs.Asking.{alike_agree}
+use Rattle.std.proofs.Common.{◌≡◌, sym, refl, ◌∙◌}
+use Rattle.std.proofs.lemmas.Bool.{eqb-true}
+use Rattle.planner.proofs.Asking.{alike_agree, agree_alike}
 use Rattle.planner.proofs.Planner.same.Goals as goal
+use Rattle.planner.proofs.Planner.same.Goals.{then-gates, else-gates, After-alike}
 
-pub returns : goal.returns
-returns g c =
+sizes : (g : _) (c : After-alike g) → ((g.S.Store.mean c.args.self.now.store).gates ≡ (g.R.Store.mean c.args.other.now.store).gates) × ((g.S.Store.mean c.args.self.now.store).width ≡ (g.R.Store.mean c.args.other.now.store).width)
+sizes g c = elim c.if-gates.branch [
+  | then-gates w ↦ (
+    sym c.gates.ensures ∙ w.if-gates.true ∙ c.gates-2.ensures,
+    sym w.width.ensures ∙ eqb-true w.width.result w.width-then-gates.result (sym w.value-is ∙ c.if-width.true) ∙ w.width-then-gates.ensures,
+  )
+  | else-gates w ↦ absurd (w.if-gates.false (eqb-true c.gates.result c.gates-2.result (sym w.value-is ∙ c.if-width.true)))
+]
+
+pub returns-then-width-clause-agree : goal.returns-then-width-clause-agree
+returns-then-width-clause-agree g c = λ a b.
     let m = g.S.Store.mean c.args.self.now.store in
     let n = g.R.Store.mean c.args.other.now.store in
-    let gates : m.gates ≡ n.gates = sym c.gates.ensures ∙ c.if-gates.false ∙ c.gates-2.ensures in
-    let width : m.width ≡ n.width = sym c.width.ensures ∙ c.if-width.false ∙ c.width-2.ensures in
-    record {
-      unloaded = λ e. absurd (no_plan c.args.self.now.plan c.if-is_none.ensures e);
-      other = λ e. absurd (no_plan c.args.other.now.plan c.if-is_none-2.ensures e);
-      agree = λ a b. (
-        c.alike.result,
-        refl,
-        record {
-          holds = λ t. (gates, width, alike_agree m n gates width (c.alike.ensures.holds t));
-          fails = λ f agree. c.alike.ensures.fails f (λ h l p w. ap (λ (d : Family). d h p) agree.2);
-        },
-      );
-    }
+    let s = sizes g c in (
+      c.alike.result,
+      refl,
+      (
+        λ t. (s.0, s.1, alike_agree m n s.0 s.1 (sym c.alike.ensures ∙ t)),
+        λ agree. c.alike.ensures ∙ agree_alike m n s.0 s.1 agree.2,
+      ),
+    )

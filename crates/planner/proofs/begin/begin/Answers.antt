@@ -5,8 +5,5 @@ use Rattle.planner.proofs.begin.begin.Goals as goal
 
 pub loop-g-preserved : goal.loop-g-preserved
 loop-g-preserved g c =
-    let inv = c.loop-g.invariant in (
-      under_step (load_of c.args.plan.now) c.loop-g.g (g.S.Store.mean c.loop-g.store) (g.S.Store.mean c.keep_starts.new.store) inv.0
-          (c.keep_starts.ensures.kept (omega (arith, inv.0.gates))),
-      c.keep_starts.ensures.good inv.1,
-    )
+    let inv = c.loop-g.invariant in
+    under_step (load_of c.args.plan.now) c.loop-g.g (g.S.Store.mean c.loop-g.store) (g.S.Store.mean c.keep_starts.new.store) inv (c.keep_starts.ensures (omega (arith, inv.gates)))

@@ -3,4 +3,4 @@ use Rattle.planner.proofs.Beginning.{Under}
 use Rattle.planner.proofs.begin.begin.Given as goal
 
 abbrev pub invariant-loop-g : goal.invariant-loop-g
-invariant-loop-g g l = Under (load_of l.plan) l.g (g.S.Store.mean l.store) × g.S.Store.good l.store
+invariant-loop-g g l = Under (load_of l.plan) l.g (g.S.Store.mean l.store)

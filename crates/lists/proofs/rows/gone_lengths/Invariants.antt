@@ -1,6 +1,0 @@
-use Rattle.std.proofs.Common.{◌≡◌, ℕ, ◌<◌, length, get_or}
-use Rattle.model.specs.Bounds.{most_gates}
-use Rattle.lists.proofs.rows.gone_lengths.Given as goal
-
-abbrev pub invariant-loop-g : goal.invariant-loop-g
-invariant-loop-g g l = (length l.row ≡ most_gates) × ((h : ℕ) → h < l.g → get_or l.row h 0 ≡ length ((g.S.Store.mean l.store).gone h))
