@@ -1,13 +1,14 @@
 // The fields of calls.
-ghost use Rattle.std.specs.Prelude.{◌≡◌};
+ghost use Rattle.std.specs.Prelude.{Some};
 ghost use Rattle.console_calls.specs.Calls.{call_kind, word_of};
 
 use model::bounds::WIDTH;
 use model::refusal::Refusal;
+use std::fmt;
 use text::field::Kinds;
 
 /// What a call field is about.
-#[derive(Clone, Copy)]
+#[derive(Clone, Copy, Debug, PartialEq, Eq, Hash)]
 pub enum CallKind {
     Strike,
     Bind,
@@ -42,12 +43,12 @@ impl Kinds for CallKind {
     }
 }
 
-impl CallKind {
-    /// The word of the call's line.
-    pub fn word(self) -> &'static str
-        ensures { result.now ≡ word_of self }
-    {
-        match self {
+/// The word of the call's line.
+impl fmt::Display for CallKind {
+    ghost output = { λ kind. Some (word_of kind) };
+
+    fn fmt<W: fmt::Write>(&self, f: &mut fmt::Formatter<W>) -> fmt::Result {
+        f.write_str(match self {
             CallKind::Strike => "strike",
             CallKind::Bind => "bind",
             CallKind::Keep => "keep",
@@ -56,6 +57,6 @@ impl CallKind {
             CallKind::Note => "note",
             CallKind::Changes => "changes",
             CallKind::Show => "show",
-        }
+        })
     }
 }

@@ -2,8 +2,10 @@
 ghost use Rattle.std.specs.Prelude.{◌≡◌, [], ◌∷◌, ◌++◌, IfOk, Some, string_bytes, OnOk};
 ghost use Rattle.model.specs.Plans.{Load};
 ghost use Rattle.planner.specs.States.{loaded};
+ghost use Rattle.console_calls.specs.Calls.{word_of};
 ghost use Rattle.console_calls.specs.Lines.{plan_line, refused_line, stop_line, spaced, told_line, denied_line};
 
+use crate::call::CallKind;
 use model::refusal::Refusal;
 use planner::Planner;
 use std::alloc::{AllocError, Global};
@@ -41,27 +43,21 @@ pub fn add_stop(out: &mut String, fault: Fault) -> Result<(), AllocError>
 {
     let number = fault.refusal.number();
     let place = fault.place;
-    let heap = *out.allocator();
-    let line = format!(in heap; "stop {number} at {place}\n")?;
-    out.push_str(line.as_str())?;
-    Ok(())
+    writeln!(out, "stop {number} at {place}")
 }
 
 /// Adds a number behind a space.
 fn add_number(out: &mut String, n: u16) -> Result<(), AllocError>
     ensures { OnOk result (string_bytes out.new ≡ string_bytes out.old ++ spaced (n ∷ [])) }
 {
-    let heap = *out.allocator();
-    let word = format!(in heap; " {n}")?;
-    out.push_str(word.as_str())?;
-    Ok(())
+    write!(out, " {n}")
 }
 
 /// Adds the line of a call and the numbers that it told.
-pub fn add_told(out: &mut String, word: &str, numbers: &[u16]) -> Result<(), AllocError>
-    ensures { OnOk result (string_bytes out.new ≡ string_bytes out.old ++ told_line word.now numbers.now) }
+pub fn add_told(out: &mut String, kind: CallKind, numbers: &[u16]) -> Result<(), AllocError>
+    ensures { OnOk result (string_bytes out.new ≡ string_bytes out.old ++ told_line (word_of kind) numbers.now) }
 {
-    out.push_str(word)?;
+    write!(out, "{kind}")?;
     for n in numbers {
         add_number(out, *n)?;
     }
@@ -70,12 +66,9 @@ pub fn add_told(out: &mut String, word: &str, numbers: &[u16]) -> Result<(), All
 }
 
 /// Adds the line of a refused call.
-pub fn add_denied(out: &mut String, word: &str, refusal: Refusal) -> Result<(), AllocError>
-    ensures { OnOk result (string_bytes out.new ≡ string_bytes out.old ++ denied_line word.now refusal) }
+pub fn add_denied(out: &mut String, kind: CallKind, refusal: Refusal) -> Result<(), AllocError>
+    ensures { OnOk result (string_bytes out.new ≡ string_bytes out.old ++ denied_line (word_of kind) refusal) }
 {
     let number = refusal.number();
-    let heap = *out.allocator();
-    let line = format!(in heap; "{word} no {number}\n")?;
-    out.push_str(line.as_str())?;
-    Ok(())
+    writeln!(out, "{kind} no {number}")
 }

@@ -17,7 +17,7 @@ use store::Store;
 fn byte(payload: &[u8], i: usize) -> u8
     ensures { result ≡ slice_index payload.now i }
 {
-    if i < payload.len() { payload[i] } else { 0 }
+    payload.get(i).copied().unwrap_or(0)
 }
 
 /// Writes the positions behind the gate of a keep at the front of the list; answers their number.
@@ -26,25 +26,23 @@ fn positions(payload: &[u8], list: &mut [u16; WIDTH]) -> usize
     ensures few { result ≤ most_width }
     ensures those { take result list.new ≡ drop 1 payload.now }
 {
-    let many = payload.len().saturating_sub(1);
-    for i in 0..many {
-        list[i] = u16::from(payload[i + 1]);
+    let [_, listed @ ..] = payload else {
+        return 0;
+    };
+    for (i, p) in listed.iter().enumerate() {
+        list[i] = u16::from(*p);
     }
-    many
+    listed.len()
 }
 
 /// Writes an answer of one number at the front of the list.
+#[tactic(auto, using(crate::proofs::Fronts::put_first))]
 fn put(answer: Result<u16, Refusal>, list: &mut [u16]) -> Result<usize, Refusal>
     requires { 1 ≤ length list.old }
     ensures { Put answer list.old result list.new }
 {
-    match answer {
-        Ok(n) => {
-            list[0] = n;
-            Ok(1)
-        }
-        Err(refusal) => Err(refusal),
-    }
+    list[0] = answer?;
+    Ok(1)
 }
 
 /// Makes the call that the payload says. What it tells is written at the front of the list; the answer is how many numbers that is.

@@ -27,8 +27,8 @@ fn add_call<S: Store>(
 {
     let mut list = [0; WIDTH];
     match make(planner, kind, payload, &mut list) {
-        Ok(many) => add_told(out, kind.word(), &list[..many])?,
-        Err(refusal) => add_denied(out, kind.word(), refusal)?,
+        Ok(many) => add_told(out, kind, &list[..many])?,
+        Err(refusal) => add_denied(out, kind, refusal)?,
     }
     Ok(())
 }
