@@ -4,7 +4,7 @@ ghost use Rattle.model.specs.Planners.{all_below};
 ghost use Rattle.sparse.specs.Arrays.{Perm, from, dom_swapped, map_swapped, Gathered};
 
 /// A gate's cells in both begin at its base, one for each of its positions.
-// kept: the two stay apart, since the caller lends them as two slices.
+// kept: two arrays, as a sparse set is published, and as the caller lends them.
 // kept: the base is a parameter: a struct of one gate's parts of both would be two more loans at each call, and spare one sum at an index.
 #[derive(Drop)]
 pub struct Cells<'a> {
