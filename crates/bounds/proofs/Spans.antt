@@ -1,5 +1,5 @@
 -- The span of one gate, as positions leave.
-use Rattle.std.proofs.Common.{◌≡◌, ℕ, zero, suc, ◌<◌, Bool, true, false, cond, T, eqb, ◌⊎◌, List, [], ◌∷◌, ◌++◌, length, Some, None, Ok, Option, Result, inl, inr, refl, sym, ap, ◌∙◌, subst, ⊎_elim, arith}
+use Rattle.std.proofs.Common.{◌≡◌, ℕ, zero, suc, ◌<◌, Bool, true, false, T, eqb, ◌⊎◌, List, [], ◌∷◌, ◌++◌, length, Some, None, Ok, Option, Result, refl, sym, ap, ◌∙◌, subst, ⊎_elim, arith}
 use Rattle.std.proofs.lemmas.Bool.{cases_eq, cases_Bool, ne_eqb, or_parts, both_ways}
 use Rattle.model.specs.declared.refusal.Refusal.{Refusal}
 use Rattle.model.specs.Families.{has}
@@ -7,10 +7,10 @@ use Rattle.model.specs.Ledgers.{ascending}
 use Rattle.model.proofs.Meaning.{has_append}
 use Rattle.store.specs.Meaning.{Meaning, domains, left, appended}
 use Rattle.store.specs.Calls.{Kept}
-use Rattle.store.proofs.Members.{true_is}
+use Rattle.store.proofs.Members.{is_false, false_not, true_is}
 use Rattle.store.proofs.Meanings.{at_same, at_other, appended_nil}
 use Rattle.store.proofs.Domains.{open_gate, open_width, open_has, open_is}
-use Rattle.store.proofs.Counts.{ascending_next}
+use Rattle.store.proofs.Counts.{ascending_agree, ascending_next, one_fewer}
 use Rattle.bounds.specs.declared.ends.Span.{Span}
 use Rattle.bounds.specs.Ends.{SpanOf, Covers}
 
@@ -64,24 +64,9 @@ pub beside : (m m' : Meaning) (g h : ℕ) (s : Option Span) → Narrowed m g m' 
 beside m m' g h s by ne k =
     same_gone m m' h s (ap (λ (x : Meaning). x.width) by.1) (ap (λ (x : Meaning). x.gone h) by.1 ∙ at_other m.gone g h (m.gone g ++ by.0) ne) k
 
--- none or some of the numbers below w pass
-passing : (w : ℕ) (d : ℕ → Bool)
-    → ((length (ascending w d) ≡ 0) × ((q : ℕ) → q < w → T (d q) → ⊥)) ⊎ ((0 < length (ascending w d)) × (q : ℕ) × T (d q))
-passing zero d = inl (refl, λ q l t. omega arith)
-passing (suc w) d =
-    let n = ascending_next w d in
-    ⊎_elim
-    (λ (e : d w ≡ true).
-    let one : length (cond (d w) (w ∷ []) []) ≡ 1 = ap (λ (b : Bool). length (cond b (w ∷ []) [])) e in
-    inr (omega arith, w, true_is (d w) e))
-    (λ (e : d w ≡ false).
-    let nil : length (cond (d w) (w ∷ []) []) ≡ 0 = ap (λ (b : Bool). length (cond b (w ∷ []) [])) e in
-    ⊎_elim
-    (λ (a : (length (ascending w d) ≡ 0) × ((q : ℕ) → q < w → T (d q) → ⊥)).
-    inl (omega arith, λ q l t. ⊎_elim (λ (i : q ≡ w). subst (λ (b : Bool). T b) (ap d i ∙ e) t) (λ (ne : q ≡ w → ⊥). a.1 q (omega arith) t) (cases_eq q w)))
-    (λ (b : (0 < length (ascending w d)) × (q : ℕ) × T (d q)). inr (omega arith, b.1, b.2))
-    (passing w d))
-    (cases_Bool (d w))
+none_pass : (w : ℕ) → length (ascending w (λ _. false)) ≡ 0
+none_pass zero = refl
+none_pass (suc w) = let i = none_pass w in let n = ascending_next w (λ _. false) in omega arith
 
 -- what a bind leaves open
 module _ (m m' : Meaning) (g p a : ℕ) (k : Kept m g (λ q. eqb q p) (Ok a) m') where
@@ -99,17 +84,21 @@ module _ (m m' : Meaning) (g p a : ℕ) (k : Kept m g (λ q. eqb q p) (Ok a) m')
 
   pub bound : (s : Option Span) → g < m'.gates → (0 < a → s ≡ Some (record { lowest = p; highest = p })) → (a ≡ 0 → s ≡ None) → SpanOf m' g s
   bound s l one none =
+      let d = domains m' g in
       let count : a ≡ left m' g = cc k.3 in
+      let zero = none_pass m'.width in
       ⊎_elim
-      (λ (z : (left m' g ≡ 0) × ((q : ℕ) → q < m'.width → T (domains m' g q) → ⊥)).
-      subst (SpanOf m' g) (sym (none (omega arith)))
-      (record { lowest = λ q b. gone_where q l b (z.1 q b); highest = λ q b. gone_where q l b (z.1 q b) }))
-      (λ (z : (0 < left m' g) × (q : ℕ) × T (domains m' g q)).
-      let t : T (domains m' g p) = subst (λ (q : ℕ). T (domains m' g q)) (only z.1 z.2) z.2 in
+      (λ (e : d p ≡ true).
+      let t = true_is (d p) e in
       let w = open_width m' g p t in
-      subst (SpanOf m' g) (sym (one (omega arith)))
-      (record {
+      let more = one_fewer m'.width d (λ _. false) p w e refl (λ q ne. sym (is_false (d q) (λ x. ne (only q x)))) in
+      subst (SpanOf m' g) (sym (one (omega arith))) (record {
         lowest = (w, open_has m' g p t, λ q b. gone_where q l (omega arith) (λ x. omega (arith, only q x)));
         highest = (w, open_has m' g p t, λ q b c. gone_where q l c (λ x. omega (arith, only q x)));
       }))
-      (passing m'.width (domains m' g))
+      (λ (e : d p ≡ false).
+      let shut : (q : ℕ) → T (d q) → ⊥ = λ q t. false_not (d p) e (subst (λ (x : ℕ). T (d x)) (only q t) t) in
+      let same = ap length (ascending_agree m'.width d (λ _. false) (λ q b. is_false (d q) (shut q))) in
+      subst (SpanOf m' g) (sym (none (omega arith)))
+      (record { lowest = λ q b. gone_where q l b (shut q); highest = λ q b. gone_where q l b (shut q) }))
+      (cases_Bool (d p))

@@ -27,7 +27,7 @@ Inside (Some s) p = (s.lowest ≤ p) × (p ≤ s.highest)
 abbrev pub Covers : Meaning → ℕ → Option Span → Type 0
 Covers m g span = (p : ℕ) → T (domains m g p) → Inside span p
 
--- no span but the gate's is another
+-- only the gate's span may be another
 abbrev pub SameBut : ℕ → Ends → Ends → Type 0
 SameBut g old new = (h : ℕ) → h ≢ g → slice_index_or new.spans h None ≡ slice_index_or old.spans h None
 

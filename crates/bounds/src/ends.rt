@@ -14,7 +14,7 @@ pub struct Ends {
     pub spans: [Option<Span>; GATES],
 }
 
-/// The ends now, and those that each mark goes back to, the oldest mark's first: none where the mark is older than the keeper.
+/// The ends now, and those that each mark goes back to, the oldest mark's first. There are none for a mark that is older than the keeper.
 #[derive(Drop)]
 pub struct Memory {
     pub ends: Ends,

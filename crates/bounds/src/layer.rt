@@ -10,6 +10,7 @@ use store::Store;
 
 impl<S: Store> Bounds<S> {
     /// The keeper over this store. It has no ends for marks that the store was given before.
+    #[tactic(auto, using(crate::proofs::Memories::held_none))]
     pub fn over(below: S) -> Self
         ensures meant { ⟦<Bounds<S> as Store>⟧.mean result ≡ S.mean below }
     {

@@ -13,6 +13,7 @@ impl Ends {
     pub fn of<S: Store>(store: &S) -> Ends
         ensures { Right (S.mean store.now) result }
     {
+        // kept: with from_fn or iter_mut the proof did not close
         let mut spans = [None; GATES];
         for g in 0..store.gates() {
             spans[g] = span_of(store, g);
@@ -57,7 +58,7 @@ impl Memory {
         self.write(g, span);
     }
 
-    /// Keeps the ends for the mark at this place.
+    /// Keeps the ends for the mark at this place, over what a mark before it left there.
     pub fn save(&mut self, mark: usize)
         requires { mark < most_marks }
         ensures newest { slice_index_or self.new.saved mark None ≡ Some self.old.ends }
@@ -67,7 +68,7 @@ impl Memory {
         self.saved[mark] = Some(self.ends);
     }
 
-    /// Takes back the ends of the mark at this place. Those of a mark that is older than the keeper are sought anew.
+    /// Takes back the ends of the mark at this place, with no scan. Only for a mark that is older than the keeper the store is asked anew.
     pub fn restore<S: Store>(&mut self, mark: usize, store: &S)
         requires { mark < most_marks }
         ensures ends { MatchOption (slice_index_or self.old.saved mark None) (Right (S.mean store.now) self.new.ends) (λ ends. self.new.ends ≡ ends) }
