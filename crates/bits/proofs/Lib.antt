@@ -3,6 +3,7 @@ pub mod Moves
 pub mod Facts
 pub mod Openings
 pub mod Strikes
+pub mod Sweeping
 pub mod Keeping
 pub mod Marking
 pub mod Restoring

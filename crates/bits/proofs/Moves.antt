@@ -7,11 +7,11 @@ use Rattle.model.specs.Families.{has}
 use Rattle.model.specs.Planners.{Once}
 use Rattle.model.proofs.Tests.{is_true}
 use Rattle.model.proofs.Meaning.{has_append}
-use Rattle.store.proofs.Members.{true_is, once_push}
+use Rattle.store.proofs.Members.{true_is, once_push, once_apart}
 use Rattle.rows.specs.declared.Row.{Row}
 use Rattle.rows.specs.Rows.{lit, Holds}
 use Rattle.bits.specs.Representation.{gone_in, bare, blank, row_at, Listed, Apart, Tied, Counts, Marks, marks_of}
-use Rattle.bits.specs.Trails.{gone_append, gone_once, once_gone}
+use Rattle.bits.specs.Trails.{gone_append, gone_once}
 use Rattle.bits.specs.declared.entry.Record.{Record}
 
 pub gone_same : (g : ℕ) (xs : List Record) (r : Record) → r.gate ≡ g → gone_in g (xs ++ r ∷ []) ≡ gone_in g xs ++ (r.position ∷ [])
@@ -22,6 +22,9 @@ pub gone_other : (g : ℕ) (xs : List Record) (r : Record) → (r.gate ≡ g →
 gone_other g xs r ne =
     gone_append g xs (r ∷ []) ∙ ap (λ l. gone_in g xs ++ map (λ (r : Record). r.position) l) (cond-false (eqb r.gate g) (r ∷ []) [] (ne_eqb r.gate g ne))
     ∙ append-nil (gone_in g xs)
+
+once_gone : (xs : List Record) → ((g : ℕ) → Once (gone_in g xs)) → Apart xs
+once_gone xs o = λ x. once_apart (gone_in x.0 xs) (o x.0) x.1 x.2 x.3 x.4 x.5
 
 -- lists that have each number once
 once_front : (xs ys : List ℕ) → Once (xs ++ ys) → Once xs

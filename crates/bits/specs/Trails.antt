@@ -6,7 +6,7 @@ use Rattle.std.proofs.lemmas.List.Elements.{filter-append}
 use Rattle.std.proofs.lemmas.Bool.{cases_eq, cond-true, cond-false, eq-eqb, ne_eqb}
 use Rattle.model.specs.Planners.{Once, all_below}
 use Rattle.model.proofs.Tests.{both}
-use Rattle.store.proofs.Members.{apart_once, once_apart}
+use Rattle.store.proofs.Members.{apart_once}
 use Rattle.bits.specs.Representation.{gone_in, Listed, Apart}
 use Rattle.bits.specs.declared.entry.Record.{Record}
 
@@ -50,6 +50,3 @@ gone_below (r ∷ xs) n w h g =
 
 pub gone_once : (xs : List Record) → Apart xs → (g : ℕ) → Once (gone_in g xs)
 gone_once xs a g = apart_once (gone_in g xs) (λ i j l k e. a (g, i, j, l, k, e))
-
-pub once_gone : (xs : List Record) → ((g : ℕ) → Once (gone_in g xs)) → Apart xs
-once_gone xs o = λ x. once_apart (gone_in x.0 xs) (o x.0) x.1 x.2 x.3 x.4 x.5

@@ -167,17 +167,8 @@ impl<'a> Bits<'a> {
     fn sweep(&mut self, g: usize, out: &Row)
         ensures { g < self.old.gates → meaning self.new ≡ appended (meaning self.old) g (outs (meaning self.old) g (lit out.now) self.old.width) }
     {
-        let w = self.width;
-        let mut from: u16 = 0;
-        while from < w {
-            let Some(q) = out.next(from as u8) else {
-                return;
-            };
-            if q >= w {
-                return;
-            }
+        for q in out.positions() {
             let _ = self.strike(g, q);
-            from = q + 1;
         }
     }
 

@@ -22,6 +22,7 @@ pub struct Bits<'a> {
     rows: [Row; GATES],
     count: [u16; GATES],
     // a mark is the trail's length then; the first `depth` of them are in use
+    // kept: a table and its depth, since a store has fixed memory and plain inner tables
     marks: [usize; MARKS],
     depth: usize,
     ghost fit: { Fit (room trail) gates width depth },

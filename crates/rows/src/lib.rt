@@ -4,6 +4,7 @@
 use model::bounds::WIDTH;
 
 mod calls;
+pub mod positions;
 
 /// The bits of a word.
 const BITS: usize = 64;
