@@ -1,3 +1,3 @@
-pub mod Starts
-pub mod Narrowings
+pub mod Keepers
+pub mod Spans
 pub mod Memories

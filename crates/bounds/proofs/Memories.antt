@@ -1,19 +1,37 @@
 -- What is remembered stays right as the store narrows, saves and restores.
-use Rattle.std.proofs.Common.{◌≡◌, ℕ, ◌-◌, ◌<◌, ◌≤◌, List, [], ◌∷◌, ◌++◌, length, get_or, take, set, sym, refl, ap, ◌∙◌, subst, ⊎_elim, arith}
-use lib.Seq.{take-length}
-use Rattle.std.proofs.lemmas.List.{get_or-set_same, get_or-set_other, take-append-le}
+use Rattle.std.proofs.Common.{◌≡◌, ◌≢◌, ℕ, zero, suc, ◌-◌, ◌<◌, ◌≤◌, List, [], ◌∷◌, ◌++◌, length, get_or, take, replicate, Some, None, Option, MatchOption, IfSome, sym, refl, ap, ◌∙◌, subst, ⊎_elim, arith}
+use Rattle.std.proofs.Math.Seq.{take-length}
+use Rattle.std.proofs.lemmas.List.{take-append-le, get_or-replicate}
 use Rattle.std.proofs.lemmas.Bool.{cases_eq}
-use Rattle.model.specs.Bounds.{most_gates}
-use Rattle.store.specs.Meaning.{Meaning, Sound, Marked, domains, changed_at, appended, saved, cut, restored}
+use Rattle.model.specs.Bounds.{most_gates, most_marks}
+use Rattle.store.specs.Meaning.{Meaning, Sound, Marked, changed_at, appended, fresh, saved, cut, restored}
 use Rattle.store.proofs.Meanings.{at_same, at_other, same_meaning}
 use Rattle.bounds.specs.declared.ends.Ends.{Ends}
 use Rattle.bounds.specs.declared.ends.Memory.{Memory}
 use Rattle.bounds.specs.declared.ends.Span.{Span}
-use Rattle.bounds.specs.Ends.{Within, Right, Held, Remembered, whole, blank}
-use Rattle.bounds.proofs.Narrowings.{Narrowed, right_anew, right_inward}
+use Rattle.bounds.specs.Ends.{SpanOf, Covers, SameBut, Right, Held, Remembered}
+use Rattle.bounds.proofs.Spans.{Narrowed, covers_still, same_gone, beside}
 
-pub held_none : (m : Meaning) (ks : List (ℕ → ℕ)) (table : List Ends) → ks ≡ [] → Held m ks table
-held_none m ks table e = subst (λ (l : List (ℕ → ℕ)). Held m l table) (sym e) tt
+no_ends : (n i : ℕ) → get_or {A = Option Ends} (replicate n None) i None ≡ None
+no_ends zero i = refl
+no_ends (suc n) zero = refl
+no_ends (suc n) (suc i) = no_ends n i
+
+-- a keeper has no ends for marks that are older than it
+pub held_none : (m : Meaning) (ks : List (ℕ → ℕ)) → Held m ks (replicate most_marks None)
+held_none m [] = tt
+held_none m (k ∷ ks) = (subst (λ o. IfSome o (Right (cut m (k ∷ ks)))) (sym (no_ends most_marks (length ks))) tt, held_none (cut m (k ∷ ks)) ks)
+
+-- all positions are open
+pub remembered_reset : (m' : Meaning) (x' : Memory) (c n w : ℕ) → m' ≡ fresh c n w → n ≤ most_gates → 0 < w
+    → x'.ends.spans ≡ replicate most_gates (Some (record { lowest = 0; highest = w - 1 })) → Remembered m' x'
+remembered_reset m' x' c n w is few some wrote =
+    subst (λ (m : Meaning). Remembered m x') (sym is) (record {
+      ends = λ g l. subst (SpanOf (fresh c n w) g)
+          (sym (ap (λ xs. get_or xs g None) wrote ∙ get_or-replicate most_gates g (Some (record { lowest = 0; highest = w - 1 })) None (omega arith)))
+          (record { lowest = (some, refl, λ q b. absurd (omega arith)); highest = (omega arith, refl, λ q a b. absurd (omega arith)) });
+      marks = tt;
+    })
 
 -- what left after a mark is cut away with it
 cut_appended : (m : Meaning) (g : ℕ) (xs : List ℕ) (k : ℕ → ℕ) (ks : List (ℕ → ℕ)) → ((h : ℕ) → k h ≤ length (m.gone h))
@@ -28,54 +46,69 @@ cut_appended m g xs k ks short =
     (cases_eq h g))
     refl
 
-held_appended : (m : Meaning) (g : ℕ) (xs : List ℕ) (ks : List (ℕ → ℕ)) (table : List Ends) → Marked m.gone ks → Held m ks table → Held (appended m g xs) ks table
+held_appended : (m : Meaning) (g : ℕ) (xs : List ℕ) (ks : List (ℕ → ℕ)) (table : List (Option Ends)) → Marked m.gone ks → Held m ks table → Held (appended m g xs) ks table
 held_appended m g xs [] table short h = tt
 held_appended m g xs (k ∷ ks) table short h =
-    subst (λ (n : Meaning). Right n (get_or table (length ks) blank) × Held n ks table) (sym (cut_appended m g xs k ks short)) h
-
-held_narrowed : (m m' : Meaning) (g : ℕ) (table : List Ends) → Sound m → Narrowed m g m' → Held m m.marks table → Held m' m'.marks table
-held_narrowed m m' g table sound by h =
-    subst (λ (n : Meaning). Held n n.marks table) (sym by.1) (held_appended m g by.0 m.marks table sound.marked h)
+    subst (λ (n : Meaning). IfSome (get_or table (length ks) None) (Right n) × Held n ks table) (sym (cut_appended m g xs k ks short)) h
 
 -- a gate has narrowed, and its span is written
-module _ (m m' : Meaning) (g : ℕ) (x : Memory) (ends : Ends) (s : Span) (sound : Sound m) (by : Narrowed m g m') (in-gates : g < m.gates)
-    (long : length x.ends.spans ≡ most_gates) (wrote : ends ≡ record { spans = set x.ends.spans g s }) where
-  within : g < length x.ends.spans
-  within = omega (arith, sound.few_gates)
+module _ (m m' : Meaning) (g : ℕ) (x x' : Memory) (sound : Sound m) (by : Narrowed m g m') where
+  written : SpanOf m' g (get_or x'.ends.spans g None) → SameBut g x.ends x'.ends → x'.saved ≡ x.saved → Remembered m x → Remembered m' x'
+  written fits others same r = record {
+    ends = λ h l. ⊎_elim
+        (λ (e : h ≡ g). subst (λ (i : ℕ). SpanOf m' i (get_or x'.ends.spans i None)) (sym e) fits)
+        (λ (ne : h ≡ g → ⊥). subst (SpanOf m' h) (sym (others h ne)) (beside m m' g h (get_or x.ends.spans h None) by ne (r.ends h (omega (arith, ap (λ (n : Meaning). n.gates) by.1)))))
+        (cases_eq h g);
+    marks = subst (Held m' m'.marks) (sym same)
+        (subst (λ (n : Meaning). Held n n.marks x.saved) (sym by.1) (held_appended m g by.0 m.marks x.saved sound.marked r.marks));
+  }
 
-  pub remembered_anew : Within m'.width (domains m' g) (whole m'.width) s → Remembered m x → Remembered m' (record { ends = ends; saved = x.saved })
-  remembered_anew fits h = record { ends = subst (Right m') (sym wrote) (right_anew m m' g x.ends s by within fits h.ends); marks = held_narrowed m m' g x.saved sound by h.marks }
+  pub remembered_written : (s : Option Span) → SpanOf m' g s → get_or x'.ends.spans g None ≡ s → SameBut g x.ends x'.ends → x'.saved ≡ x.saved
+      → Remembered m x → Remembered m' x'
+  remembered_written s fits wrote others same r = written (subst (SpanOf m' g) (sym wrote) fits) others same r
 
-  pub remembered_inward : Within m'.width (domains m' g) (get_or x.ends.spans g (whole 0)) s → Remembered m x → Remembered m' (record { ends = ends; saved = x.saved })
-  remembered_inward fits h = record { ends = subst (Right m') (sym wrote) (right_inward m m' g x.ends s by in-gates within fits h.ends); marks = held_narrowed m m' g x.saved sound by h.marks }
+  pub remembered_narrowed : g < m.gates → (g < m'.gates → Covers m' g (get_or x.ends.spans g None) → SpanOf m' g (get_or x'.ends.spans g None))
+      → SameBut g x.ends x'.ends → x'.saved ≡ x.saved → Remembered m x → Remembered m' x'
+  remembered_narrowed l found others same r =
+      written (found (omega (arith, ap (λ (n : Meaning). n.gates) by.1)) (covers_still m m' g (get_or x.ends.spans g None) by (r.ends g l))) others same r
 
--- the marks do not look beyond their places
-held_beyond : (m : Meaning) (ks : List (ℕ → ℕ)) (table : List Ends) (i : ℕ) (ends : Ends) → length ks ≤ i → Held m ks table → Held m ks (set table i ends)
-held_beyond m [] table i ends l h = tt
-held_beyond m (k ∷ ks) table i ends l h = (
-  subst (Right (cut m (k ∷ ks))) (sym (get_or-set_other table i (length ks) ends blank (λ q. omega arith))) h.0,
-  held_beyond (cut m (k ∷ ks)) ks table i ends (omega arith) h.1,
+-- only the places of the marks are looked at
+held_below : (m : Meaning) (ks : List (ℕ → ℕ)) (table new : List (Option Ends)) → ((i : ℕ) → i < length ks → get_or new i None ≡ get_or table i None)
+    → Held m ks table → Held m ks new
+held_below m [] table new same h = tt
+held_below m (k ∷ ks) table new same h = (
+  subst (λ o. IfSome o (Right (cut m (k ∷ ks)))) (sym (same (length ks) (omega arith))) h.0,
+  held_below (cut m (k ∷ ks)) ks table new (λ i l. same i (omega arith)) h.1,
 )
 
-pub remembered_saved : (m m' : Meaning) (x x' : Memory) (i : ℕ) → m' ≡ saved m → length m.marks ≡ i → i < length x.saved
-    → x' ≡ record { ends = x.ends; saved = set x.saved i x.ends } → Remembered m x → Remembered m' x'
-remembered_saved m m' x x' i is here l wrote h =
-    let t = set x.saved i x.ends in
-    let same : cut (saved m) (saved m).marks ≡ m = same_meaning _ _ refl refl refl (λ g. take-length (m.gone g)) refl in
-    let read : get_or t (length m.marks) blank ≡ x.ends = ap (λ (j : ℕ). get_or t j blank) here ∙ get_or-set_same x.saved i x.ends blank l in
-    let held : Held (saved m) (saved m).marks t =
-    subst (λ (n : Meaning). Right n (get_or t (length m.marks) blank) × Held n m.marks t) (sym same)
-    (subst (Right m) (sym read) h.ends, held_beyond m m.marks x.saved i x.ends (omega arith) h.marks) in
-    subst (Remembered m') (sym wrote) (subst (λ (n : Meaning). Remembered n (record { ends = x.ends; saved = t })) (sym is) (record { ends = h.ends; marks = held }))
+pub remembered_saved : (m m' : Meaning) (x x' : Memory) (i : ℕ) → m' ≡ saved m → i ≡ length m.marks → x'.ends ≡ x.ends
+    → get_or x'.saved i None ≡ Some x.ends → ((j : ℕ) → j ≢ i → get_or x'.saved j None ≡ get_or x.saved j None) → Remembered m x → Remembered m' x'
+remembered_saved m m' x x' i is here ends newest others r =
+    let back : cut (saved m) (saved m).marks ≡ m = same_meaning _ _ refl refl refl (λ g. take-length (m.gone g)) refl in
+    subst (λ (n : Meaning). Remembered n x') (sym is) (record {
+      ends = subst (Right (saved m)) (sym ends) (λ g l. same_gone m (saved m) g (get_or x.ends.spans g None) refl refl (r.ends g l));
+      marks = subst (λ (n : Meaning). IfSome (get_or x'.saved (length m.marks) None) (Right n) × Held n m.marks x'.saved) (sym back) (
+        subst (λ o. IfSome o (Right m)) (sym (ap (λ (j : ℕ). get_or x'.saved j None) (sym here) ∙ newest)) r.ends,
+        held_below m m.marks x.saved x'.saved (λ j l. others j (λ e. omega arith)) r.marks,
+      );
+    })
 
-pub remembered_restored : (m m' : Meaning) (x x' : Memory) (i : ℕ) → m' ≡ restored m → 0 < length m.marks → length m.marks - 1 ≡ i
-    → x' ≡ record { ends = get_or x.saved i blank; saved = x.saved } → Remembered m x → Remembered m' x'
-remembered_restored m m' x x' i is some here wrote h =
-    subst (Remembered m') (sym wrote) (subst (λ (n : Meaning). Remembered n (record { ends = get_or x.saved i blank; saved = x.saved })) (sym is) (back m m.marks x.saved i some here h.marks))
+pub remembered_restored : (m m' : Meaning) (x x' : Memory) (i : ℕ) → m' ≡ restored m → 0 < length m.marks → i ≡ length m.marks - 1
+    → MatchOption (get_or x.saved i None) (Right m' x'.ends) (λ ends. x'.ends ≡ ends) → x'.saved ≡ x.saved → Remembered m x → Remembered m' x'
+remembered_restored m m' x x' i is some here ends same r =
+    let b = back m.marks some here r.marks in
+    subst (λ (n : Meaning). Remembered n x') (sym is) (record {
+      ends = taken (get_or x.saved i None) (subst (λ (n : Meaning). MatchOption (get_or x.saved i None) (Right n x'.ends) (λ ends. x'.ends ≡ ends)) is ends) b.0;
+      marks = subst (Held (restored m) (restored m).marks) (sym same) b.1;
+    })
   where
-    back : (m : Meaning) (ks : List (ℕ → ℕ)) (table : List Ends) (i : ℕ) → 0 < length ks → length ks - 1 ≡ i → Held m ks table
-        → Remembered (cut m ks) (record { ends = get_or table i blank; saved = table })
-    back m [] table i some here h = absurd (omega arith)
-    back m (k ∷ ks) table i some here h =
+    back : (ks : List (ℕ → ℕ)) → 0 < length ks → i ≡ length ks - 1 → Held m ks x.saved
+        → IfSome (get_or x.saved i None) (Right (cut m ks)) × Held (cut m ks) (cut m ks).marks x.saved
+    back [] some here h = absurd (omega arith)
+    back (k ∷ ks) some here h =
         let e : length ks ≡ i = omega arith in
-        record { ends = subst (λ (j : ℕ). Right (cut m (k ∷ ks)) (get_or table j blank)) e h.0; marks = h.1 }
+        (subst (λ (j : ℕ). IfSome (get_or x.saved j None) (Right (cut m (k ∷ ks)))) e h.0, h.1)
+
+    taken : (o : Option Ends) → MatchOption o (Right (restored m) x'.ends) (λ ends. x'.ends ≡ ends) → IfSome o (Right (restored m)) → Right (restored m) x'.ends
+    taken None found h = found
+    taken (Some ends) e h = subst (Right (restored m)) (sym e) h

@@ -1,42 +1,45 @@
--- The ends of a domain, and what is remembered of them.
-use Rattle.std.specs.Prelude.{ℕ, ◌-◌, ◌<◌, ◌≤◌, Bool, T, List, [], ◌∷◌, length, replicate, slice_index_or}
-use Rattle.model.specs.Bounds.{most_gates}
+-- The ends of the domains, and what is remembered of them.
+use Rattle.std.specs.Prelude.{◌≡◌, ◌≢◌, ℕ, ◌<◌, ◌≤◌, true, false, T, List, [], ◌∷◌, length, Some, None, Option, IfSome, slice_index_or}
+use Rattle.std.specs.Option.{option_map}
 use Rattle.store.specs.Meaning.{Meaning, domains, cut}
+use Rattle.store.specs.Calls.{Least, Greatest}
 use Rattle.bounds.specs.declared.ends.Ends.{Ends}
 use Rattle.bounds.specs.declared.ends.Memory.{Memory}
 use Rattle.bounds.specs.declared.ends.Span.{Span}
 
--- p is the lowest position of the domain from `from` on, or the width w
-pub record Low (w : ℕ) (d : ℕ → Bool) (from p : ℕ) : Type 0 where
-  pub least : (q : ℕ) → from ≤ q → T (d q) → p ≤ q
-  pub stands : p < w → T (d p)
+-- the span goes from the lowest position open to the gate to the highest; there is none where none is open
+pub record SpanOf (m : Meaning) (g : ℕ) (span : Option Span) : Type 0 where
+  pub lowest : Least m g (option_map (λ s. s.lowest) span)
+  pub highest : Greatest m g (option_map (λ s. s.highest) span)
 
--- e is one past the highest position of the domain below `to`, or 0
-pub record High (d : ℕ → Bool) (to e : ℕ) : Type 0 where
-  pub greatest : (q : ℕ) → q < to → T (d q) → q < e
-  pub stands : 0 < e → T (d (e - 1))
+-- the greatest position open to the gate of those from `from` to `to`, or none where none of them is open
+abbrev pub LastOpen : Meaning → ℕ → ℕ → ℕ → Option ℕ → Type 0
+LastOpen m g from to None = (q : ℕ) → from ≤ q → q ≤ to → domains m g q ≡ false
+LastOpen m g from to (Some p) =
+    (from ≤ p) × (p ≤ to) × (domains m g p ≡ true) × ((q : ℕ) → p < q → q ≤ to → domains m g q ≡ false)
 
--- s is the span of what is open within the span `from`
-abbrev pub Within : ℕ → (ℕ → Bool) → Span → Span → Type 0
-Within w d from s = Low w d from.low s.low × High d from.high s.high
+-- the position lies in the span
+abbrev pub Inside : Option Span → ℕ → Type 0
+Inside None p = ⊥
+Inside (Some s) p = (s.lowest ≤ p) × (p ≤ s.highest)
 
-abbrev pub whole : ℕ → Span
-whole w = record { low = 0; high = w }
+-- all that is open to the gate lies in the span
+abbrev pub Covers : Meaning → ℕ → Option Span → Type 0
+Covers m g span = (p : ℕ) → T (domains m g p) → Inside span p
 
-abbrev pub full : ℕ → Ends
-full w = record { spans = replicate most_gates (whole w) }
+-- only the gate's span may be another
+abbrev pub SameBut : ℕ → Ends → Ends → Type 0
+SameBut g old new = (h : ℕ) → h ≢ g → slice_index_or new.spans h None ≡ slice_index_or old.spans h None
 
--- each gate's span is that of all its open positions
+-- each gate's span is that of its open positions
 abbrev pub Right : Meaning → Ends → Type 0
-Right m ends = (g : ℕ) → g < m.gates → Within m.width (domains m g) (whole m.width) (slice_index_or ends.spans g (whole 0))
+Right m ends = (g : ℕ) → g < m.gates → SpanOf m g (slice_index_or ends.spans g None)
 
-abbrev pub blank : Ends
-blank = record { spans = [] }
-
--- for each mark the table has the ends of what it goes back to; the place of a mark is how many are older
-abbrev pub Held : Meaning → List (ℕ → ℕ) → List Ends → Type 0
+-- where the table has ends for a mark, they are right for what it goes back to; a mark's place is how many are older
+abbrev pub Held : Meaning → List (ℕ → ℕ) → List (Option Ends) → Type 0
 Held m [] table = Unit {0}
-Held m (k ∷ ks) table = Right (cut m (k ∷ ks)) (slice_index_or table (length ks) blank) × Held (cut m (k ∷ ks)) ks table
+Held m (k ∷ ks) table =
+    IfSome (slice_index_or table (length ks) None) (Right (cut m (k ∷ ks))) × Held (cut m (k ∷ ks)) ks table
 
 -- what is remembered is right for this meaning
 pub record Remembered (m : Meaning) (x : Memory) : Type 0 where

@@ -1,2 +1,2 @@
 pub mod Ends
-pub mod Keeper
+pub mod Unique

@@ -1,22 +1,22 @@
 // What is remembered of the domains.
 use model::bounds::{GATES, MARKS};
 
-/// The lowest open position of a gate, or the width, and one past its highest, or 0.
+/// The lowest and the highest open position of a gate.
 #[derive(Clone, Copy)]
 pub struct Span {
-    pub low: u16,
-    pub high: u16,
+    pub lowest: u16,
+    pub highest: u16,
 }
 
-/// The span of each gate.
+/// The span of each gate, none where nothing is open.
 #[derive(Clone, Copy)]
 pub struct Ends {
-    pub spans: [Span; GATES],
+    pub spans: [Option<Span>; GATES],
 }
 
-/// The ends now, and those that each mark goes back to, the oldest mark's first.
+/// The ends now, and those that each mark goes back to, the oldest mark's first. There are none for a mark that is older than the keeper.
 #[derive(Drop)]
 pub struct Memory {
     pub ends: Ends,
-    pub saved: [Ends; MARKS],
+    pub saved: [Option<Ends>; MARKS],
 }

@@ -1,35 +1,25 @@
 // A keeper of bounds is a store.
-ghost use Rattle.std.specs.Prelude.{◌≡◌, []};
-ghost use Rattle.bounds.specs.Keeper.{meaning, Good};
+ghost use Rattle.std.specs.Prelude.{◌≡◌};
 
 use crate::Bounds;
-use crate::ends::{Ends, Memory, Span};
-use crate::scan::{after_bind, inward};
-use model::bounds::{GATES, MARKS};
+use crate::ends::{Ends, Memory};
+use crate::scan::after_bind;
+use model::bounds::MARKS;
 use model::refusal::Refusal;
 use store::Store;
 
 impl<S: Store> Bounds<S> {
     /// The keeper over this store. It has no ends for marks that the store was given before.
+    #[tactic(auto, using(crate::proofs::Memories::held_none))]
     pub fn over(below: S) -> Self
-        ensures meant { meaning S.Store.mean result ≡ S.Store.mean below }
-        ensures good { S.Store.good below → (S.Store.mean below).marks ≡ [] → Good S.Store.mean S.Store.good result }
+        ensures meant { ⟦<Bounds<S> as Store>⟧.mean result ≡ S.mean below }
     {
-        let whole = Span {
-            low: 0,
-            high: below.width(),
-        };
-        let mut ends = Ends {
-            spans: [whole; GATES],
-        };
-        for g in 0..below.gates() {
-            ends.set(g, inward(&below, g, whole));
-        }
+        let ends = Ends::of(&below);
         Bounds {
             below,
             memory: Memory {
                 ends,
-                saved: [ends; MARKS],
+                saved: [None; MARKS],
             },
         }
     }
@@ -37,18 +27,15 @@ impl<S: Store> Bounds<S> {
 
 /// A keeper over a keeper.
 pub fn pile<S: Store>(below: S) -> Bounds<Bounds<S>>
-    ensures meant { meaning (meaning S.Store.mean) result ≡ S.Store.mean below }
-    ensures good { S.Store.good below → (S.Store.mean below).marks ≡ [] → Good (meaning S.Store.mean) (Good S.Store.mean S.Store.good) result }
+    ensures meant { ⟦<Bounds<Bounds<S>> as Store>⟧.mean result ≡ S.mean below }
 {
     Bounds::over(Bounds::over(below))
 }
 
 impl<S: Store> Store for Bounds<S> {
-    ghost mean = { meaning S.Store.mean };
+    ghost mean = { λ b. S.mean b.below };
 
-    ghost sound = { λ b. S.Store.sound b.below };
-
-    ghost good = { Good S.Store.mean S.Store.good };
+    ghost sound = { λ b. S.sound b.below };
 
     fn holds(&self) -> usize {
         self.below.holds()
@@ -62,24 +49,20 @@ impl<S: Store> Store for Bounds<S> {
 
     fn strike(&mut self, g: usize, p: u16) -> Result<u16, Refusal> {
         let hit = self.below.strike(g, p)?;
-        let span = inward(&self.below, g, self.memory.ends.spans[g]);
-        self.memory.ends.set(g, span);
+        self.memory.narrow(&self.below, g);
         Ok(hit)
     }
 
     // At most the one position is left, so nothing is sought.
     fn bind(&mut self, g: usize, p: u16) -> Result<u16, Refusal> {
         let left = self.below.bind(g, p)?;
-        self.memory
-            .ends
-            .set(g, after_bind(left, p, self.below.width()));
+        self.memory.write(g, after_bind(left, p));
         Ok(left)
     }
 
     fn keep(&mut self, g: usize, list: &[u16]) -> Result<u16, Refusal> {
         let left = self.below.keep(g, list)?;
-        let span = inward(&self.below, g, self.memory.ends.spans[g]);
-        self.memory.ends.set(g, span);
+        self.memory.narrow(&self.below, g);
         Ok(left)
     }
 
@@ -91,7 +74,7 @@ impl<S: Store> Store for Bounds<S> {
 
     fn restore(&mut self) -> Result<u16, Refusal> {
         let many = self.below.restore()?;
-        self.memory.restore(usize::from(many));
+        self.memory.restore(usize::from(many), &self.below);
         Ok(many)
     }
 
@@ -112,27 +95,13 @@ impl<S: Store> Store for Bounds<S> {
     }
 
     fn lowest(&self, g: usize) -> Result<Option<u16>, Refusal> {
-        if g >= self.below.gates() {
-            return Err(Refusal::NoGate);
-        }
-        let low = self.memory.ends.spans[g].low;
-        if low < self.below.width() {
-            Ok(Some(low))
-        } else {
-            Ok(None)
-        }
+        self.check_gate(g)?;
+        Ok(self.memory.ends.spans[g].map(|s| s.lowest))
     }
 
     fn highest(&self, g: usize) -> Result<Option<u16>, Refusal> {
-        if g >= self.below.gates() {
-            return Err(Refusal::NoGate);
-        }
-        let high = self.memory.ends.spans[g].high;
-        if high > 0 {
-            Ok(Some(high - 1))
-        } else {
-            Ok(None)
-        }
+        self.check_gate(g)?;
+        Ok(self.memory.ends.spans[g].map(|s| s.highest))
     }
 
     fn gone(&self, g: usize, k: usize) -> Result<Option<u16>, Refusal> {

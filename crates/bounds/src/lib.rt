@@ -1,6 +1,9 @@
 // A layer over any store that remembers each gate's lowest and highest open position.
 #![tactic(auto)]
 
+ghost use Rattle.bounds.specs.Ends.{Remembered};
+ghost use Rattle.bounds.specs.Unique.{Remembered-prop};
+
 use crate::ends::Memory;
 use store::Store;
 
@@ -14,4 +17,5 @@ mod scan;
 pub struct Bounds<S: Store> {
     below: S,
     memory: Memory,
+    ghost right: { Remembered (S.mean below) memory } by { Remembered-prop (S.mean below) memory },
 }

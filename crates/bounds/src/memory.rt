@@ -1,47 +1,82 @@
 // The memory of the ends, as it is written, begun anew, saved and taken back.
-// The clauses named `long` tell the callers' proofs the length of a table, which they cannot see.
-ghost use Rattle.std.specs.Prelude.{◌≡◌, ◌<◌, length, slice_index_or, slice_set};
+ghost use Rattle.std.specs.Prelude.{◌≡◌, ◌≢◌, ℕ, ◌<◌, ◌-◌, replicate, MatchOption, slice_index_or};
 ghost use Rattle.model.specs.Bounds.{most_gates, most_marks};
-ghost use Rattle.bounds.specs.Ends.{full, blank};
+ghost use Rattle.bounds.specs.Ends.{SpanOf, Covers, SameBut, Right};
 
 use crate::ends::{Ends, Memory, Span};
+use crate::scan::{inward, span_of};
 use model::bounds::GATES;
+use store::Store;
 
 impl Ends {
-    /// Writes the span of one gate.
-    pub fn set(&mut self, g: usize, span: Span)
-        requires { g < most_gates }
-        ensures wrote { self.new ≡ record { spans = slice_set self.old.spans g span } }
-        ensures long { length self.old.spans ≡ most_gates }
+    /// Each gate's span, as the store tells it.
+    pub fn of<S: Store>(store: &S) -> Ends
+        ensures { Right (S.mean store.now) result }
     {
-        self.spans[g] = span;
+        // kept: with from_fn or iter_mut the proof did not close
+        let mut spans = [None; GATES];
+        for g in 0..store.gates() {
+            spans[g] = span_of(store, g);
+        }
+        Ends { spans }
     }
 }
 
 impl Memory {
     /// All w positions of each gate are open.
     pub fn reset(&mut self, w: u16)
-        ensures { self.new ≡ record { ends = full w; saved = self.old.saved } }
+        requires { 0 < w }
+        ensures ends { self.new.ends.spans ≡ replicate most_gates (Some (record { lowest = 0; highest = w - 1 })) }
+        ensures saved { self.new.saved ≡ self.old.saved }
     {
-        self.ends = Ends {
-            spans: [Span { low: 0, high: w }; GATES],
+        let whole = Span {
+            lowest: 0,
+            highest: w - 1,
         };
+        self.ends.spans = [Some(whole); GATES];
     }
 
-    /// Keeps the ends for the mark at this place.
+    /// Writes the span of one gate.
+    pub fn write(&mut self, g: usize, span: Option<Span>)
+        requires { g < most_gates }
+        ensures written { slice_index_or self.new.ends.spans g None ≡ span }
+        ensures others { SameBut g self.old.ends self.new.ends }
+        ensures saved { self.new.saved ≡ self.old.saved }
+    {
+        self.ends.spans[g] = span;
+    }
+
+    /// Seeks the gate's span within what it was.
+    pub fn narrow<S: Store>(&mut self, store: &S, g: usize)
+        requires { g < most_gates }
+        ensures found { g < (S.mean store.now).gates → Covers (S.mean store.now) g (slice_index_or self.old.ends.spans g None)
+            → SpanOf (S.mean store.now) g (slice_index_or self.new.ends.spans g None) }
+        ensures others { SameBut g self.old.ends self.new.ends }
+        ensures saved { self.new.saved ≡ self.old.saved }
+    {
+        let span = inward(store, g, self.ends.spans[g]);
+        self.write(g, span);
+    }
+
+    /// Keeps the ends for the mark at this place, over what a mark before it left there.
     pub fn save(&mut self, mark: usize)
         requires { mark < most_marks }
-        ensures wrote { self.new ≡ record { ends = self.old.ends; saved = slice_set self.old.saved mark self.old.ends } }
-        ensures long { length self.old.saved ≡ most_marks }
+        ensures newest { slice_index_or self.new.saved mark None ≡ Some self.old.ends }
+        ensures others { (i : ℕ) → i ≢ mark → slice_index_or self.new.saved i None ≡ slice_index_or self.old.saved i None }
+        ensures ends { self.new.ends ≡ self.old.ends }
     {
-        self.saved[mark] = self.ends;
+        self.saved[mark] = Some(self.ends);
     }
 
-    /// Takes back the ends of the mark at this place.
-    pub fn restore(&mut self, mark: usize)
+    /// Takes back the ends of the mark at this place, with no scan. Only for a mark that is older than the keeper the store is asked anew.
+    pub fn restore<S: Store>(&mut self, mark: usize, store: &S)
         requires { mark < most_marks }
-        ensures { self.new ≡ record { ends = slice_index_or self.old.saved mark blank; saved = self.old.saved } }
+        ensures ends { MatchOption (slice_index_or self.old.saved mark None) (Right (S.mean store.now) self.new.ends) (λ ends. self.new.ends ≡ ends) }
+        ensures saved { self.new.saved ≡ self.old.saved }
     {
-        self.ends = self.saved[mark];
+        self.ends = match self.saved[mark] {
+            Some(ends) => ends,
+            None => Ends::of(store),
+        };
     }
 }

@@ -1,49 +1,50 @@
 // The span of a domain, as calls on a store tell it.
-ghost use Rattle.std.specs.Prelude.{◌≡◌, ◌+◌, ◌<◌};
+ghost use Rattle.std.specs.Prelude.{◌≡◌, ℕ, ◌<◌, ◌≤◌, true, false, IfSome, IfNone};
 ghost use Rattle.store.specs.Meaning.{domains};
-ghost use Rattle.bounds.specs.Ends.{High, Within};
+ghost use Rattle.bounds.specs.Ends.{SpanOf, LastOpen, Covers};
 
 use crate::ends::Span;
 use store::Store;
 
-/// The span of what is open within this one. An end that is open is found at the first test.
-pub fn inward<S: Store>(s: &S, g: usize, span: Span) -> Span
-    ensures { Within (S.Store.mean s.now).width (domains (S.Store.mean s.now) g) span result }
+/// The gate's span, as the store tells it.
+pub fn span_of<S: Store>(store: &S, g: usize) -> Option<Span>
+    ensures { g < (S.mean store.now).gates → SpanOf (S.mean store.now) g result }
 {
-    let low = match s.next_open(g, span.low) {
-        Some(p) => p,
-        None => s.width(),
-    };
-    Span {
-        low,
-        high: high_to(s, g, span.high),
-    }
+    let lowest = store.lowest(g).ok()??;
+    let highest = store.highest(g).ok()??;
+    Some(Span { lowest, highest })
 }
 
-/// One past the highest open position below `to`, or 0.
-fn high_to<S: Store>(s: &S, g: usize, to: u16) -> u16
-    ensures { High (domains (S.Store.mean s.now) g) to result }
+/// The gate's span, where all that is open lies in this one. An end that is open is found at the first test.
+pub fn inward<S: Store>(store: &S, g: usize, span: Option<Span>) -> Option<Span>
+    ensures { g < (S.mean store.now).gates → Covers (S.mean store.now) g span → SpanOf (S.mean store.now) g result }
 {
-    for p in (0..to).rev() {
-        if s.is_open(g, p) {
-            return p + 1;
-        }
-    }
-    0
+    let span = span?;
+    let lowest = store.next_open(g, span.lowest)?;
+    let highest = last_open(store, g, lowest, span.highest)?;
+    Some(Span { lowest, highest })
 }
 
-/// The span that a bind to p leaves of w positions: of p alone, or of none.
-pub fn after_bind(left: u16, p: u16, w: u16) -> Span
-    requires { p < w }
-    ensures one { 0 < left → result ≡ record { low = p; high = p + 1 } }
-    ensures none { left ≡ 0 → result ≡ record { low = w; high = 0 } }
+/// The gate's highest open position from `from` to `to`.
+fn last_open<S: Store>(store: &S, g: usize, from: u16, to: u16) -> Option<u16>
+    ensures { LastOpen (S.mean store.now) g from to result }
 {
-    if left > 0 {
-        Span {
-            low: p,
-            high: p + 1,
+    // kept: with find the proof did not close
+    for p in (from..=to).rev() {
+        if store.is_open(g, p) {
+            return Some(p);
         }
-    } else {
-        Span { low: w, high: 0 }
     }
+    None
+}
+
+/// The span that a bind to p leaves: of p alone, or of none.
+pub fn after_bind(left: u16, p: u16) -> Option<Span>
+    ensures one { 0 < left → result ≡ Some (record { lowest = p; highest = p }) }
+    ensures none { left ≡ 0 → result ≡ None }
+{
+    (left > 0).then_some(Span {
+        lowest: p,
+        highest: p,
+    })
 }
