@@ -17,45 +17,21 @@ pub fn plan_line<S: Store>(heap: Global, planner: &Planner<S>) -> Result<String,
     ensures { IfOk result (λ s. (load : Load) → loaded planner.now ≡ Some load → string_bytes s ≡ plan_line load.plan) }
 {
     match planner.plan() {
-        Some(plan) => {
-            let n = plan.gates();
-            let w = plan.width();
-            let line = format!(in heap; "plan {n} {w}\n")?;
-            Ok(line)
-        }
+        Some(plan) => lines::plan_line(heap, plan),
         None => Ok(String::new(heap)),
     }
 }
 
-/// The line of a refused plan.
-pub fn refused_line(heap: Global, fault: Fault) -> Result<String, AllocError>
-    ensures { IfOk result (λ s. string_bytes s ≡ refused_line fault) }
-{
-    let number = fault.refusal.number();
-    let place = fault.place;
-    let line = format!(in heap; "plan no {number} at {place}\n")?;
-    Ok(line)
-}
-
-/// Adds the line of a bad call field.
-pub fn add_stop(out: &mut String, fault: Fault) -> Result<(), AllocError>
-    ensures { OnOk result (string_bytes out.new ≡ string_bytes out.old ++ stop_line fault) }
-{
-    let number = fault.refusal.number();
-    let place = fault.place;
-    writeln!(out, "stop {number} at {place}")
-}
-
 /// Adds a number behind a space.
 fn add_number(out: &mut String, n: u16) -> Result<(), AllocError>
-    ensures { OnOk result (string_bytes out.new ≡ string_bytes out.old ++ spaced (n ∷ [])) }
+    ensures { OnOk result (Appends out.old out.new (spaced (n ∷ []))) }
 {
     write!(out, " {n}")
 }
 
 /// Adds the line of a call and the numbers that it told.
 pub fn add_told(out: &mut String, kind: CallKind, numbers: &[u16]) -> Result<(), AllocError>
-    ensures { OnOk result (string_bytes out.new ≡ string_bytes out.old ++ told_line (word_of kind) numbers.now) }
+    ensures { OnOk result (Appends out.old out.new (told_line (word_of kind) numbers.now)) }
 {
     write!(out, "{kind}")?;
     for n in numbers {
@@ -67,8 +43,7 @@ pub fn add_told(out: &mut String, kind: CallKind, numbers: &[u16]) -> Result<(),
 
 /// Adds the line of a refused call.
 pub fn add_denied(out: &mut String, kind: CallKind, refusal: Refusal) -> Result<(), AllocError>
-    ensures { OnOk result (string_bytes out.new ≡ string_bytes out.old ++ denied_line (word_of kind) refusal) }
+    ensures { OnOk result (Appends out.old out.new (denied_line (word_of kind) refusal)) }
 {
-    let number = refusal.number();
-    writeln!(out, "{kind} no {number}")
+    writeln!(out, "{kind} no {refusal}")
 }

@@ -7,7 +7,7 @@ use members::Members;
 use pair::{Near, NotAbove, Offset};
 
 /// The members' shares, weight times position, sum to at least `low` and at most `high`.
-#[derive(Clone, Copy, Debug, PartialEq, Eq, Hash)]
+#[derive(Clone, Copy, Debug)]
 pub struct Total {
     pub low: u32,
     pub high: u32,
@@ -15,7 +15,7 @@ pub struct Total {
 }
 
 /// A rule of a plan.
-#[derive(Clone, Copy, Debug, PartialEq, Eq, Hash)]
+#[derive(Clone, Copy, Debug)]
 pub enum Rule {
     Offset(Offset),
     Near(Near),

@@ -14,7 +14,7 @@ pub mod trials;
 
 // kept: fixed tables with a count, since a plan is `Copy` and the library has no heap.
 /// Gates, width, the positions that each gate starts with, and the first `count` of the rules, in text order.
-#[derive(Clone, Copy, Debug, PartialEq, Eq)]
+#[derive(Clone, Copy, Debug)]
 pub struct Plan {
     gates: usize,
     width: usize,

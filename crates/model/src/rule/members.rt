@@ -7,9 +7,9 @@ use super::member::Member;
 use crate::bounds::MEMBERS;
 
 // kept: a fixed array with a count, since a rule is `Copy` and the library has no heap.
+// It has no `==`, which would read the places past the count; so a rule and a plan have none.
 /// The first `count` of the list, one at least. No gate is a member twice.
-/// Two are equal if they agree in every place of the list, those past `count` too.
-#[derive(Clone, Copy, Debug, PartialEq, Eq, Hash)]
+#[derive(Clone, Copy, Debug)]
 pub struct Members {
     pub count: usize,
     pub list: [Member; MEMBERS],
