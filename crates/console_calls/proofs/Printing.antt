@@ -4,8 +4,8 @@ use Rattle.model.specs.Planners.{Planner, Loaded}
 use Rattle.text.specs.declared.fault.Fault.{Fault}
 use Rattle.plan.specs.Plans.{Reading, plan_text}
 use Rattle.planner.specs.Loads.{load_answer}
-use Rattle.console_calls.specs.Lines.{plan_line}
-use Rattle.console_calls.specs.Sessions.{most_input, Session, Adds, Prints}
+use Rattle.console.specs.Lines.{most_input, plan_line}
+use Rattle.console_calls.specs.Sessions.{Session, Adds, Prints}
 
 -- what was answered was not refused
 pub fails : {A E : Type 0} {P : Type 0} (a : A) (e : E) → ◌≡◌ {A = Result A E} (Ok a) (Err e) → P

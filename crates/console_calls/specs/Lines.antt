@@ -1,18 +1,7 @@
--- The lines that the program prints.
+-- The lines of calls.
 use Rattle.std.specs.Prelude.{ℕ, List, [], ◌∷◌, ◌++◌, codes, decimal}
 use Rattle.model.specs.declared.refusal.Refusal.{Refusal}
-use Rattle.model.specs.Plans.{Plan}
 use Rattle.model.specs.Refusals.{number_of}
-use Rattle.text.specs.declared.fault.Fault.{Fault}
-
-abbrev pub plan_line : Plan → List ℕ
-plan_line plan = codes "plan " ++ (decimal plan.gates ++ (codes " " ++ (decimal plan.width ++ codes "\n")))
-
-abbrev pub refused_line : Fault → List ℕ
-refused_line e = codes "plan no " ++ (decimal (number_of e.refusal) ++ (codes " at " ++ (decimal e.place ++ codes "\n")))
-
-abbrev pub stop_line : Fault → List ℕ
-stop_line e = codes "stop " ++ (decimal (number_of e.refusal) ++ (codes " at " ++ (decimal e.place ++ codes "\n")))
 
 -- each number behind a space
 abbrev pub spaced : List ℕ → List ℕ

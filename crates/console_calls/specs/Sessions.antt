@@ -8,13 +8,10 @@ use Rattle.text.specs.declared.fault.Fault.{Fault}
 use Rattle.text.specs.Fields.{Part, field_at, next_at}
 use Rattle.plan.specs.Plans.{Reading, plan_text}
 use Rattle.planner.specs.Loads.{load_answer}
+use Rattle.console.specs.Lines.{most_input, plan_line, refused_line, stop_line}
 use Rattle.console_calls.specs.declared.call.CallKind.{CallKind}
 use Rattle.console_calls.specs.Calls.{call_kind, word_of, call_of}
-use Rattle.console_calls.specs.Lines.{plan_line, refused_line, stop_line, told_line, denied_line}
-
--- the most bytes of input
-abbrev pub most_input : ℕ
-most_input = 32768
+use Rattle.console_calls.specs.Lines.{told_line, denied_line}
 
 -- the call field at a place
 abbrev pub IsCall : List ℕ → ℕ → Part CallKind → Type 0

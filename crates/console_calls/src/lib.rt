@@ -5,7 +5,8 @@ ghost use Rattle.std.specs.Prelude.{IfOk, string_bytes};
 ghost use Rattle.console_calls.specs.Sessions.{Prints};
 
 use bounds::Bounds;
-use lines::{plan_line, refused_line};
+use console::lines::refused_line;
+use lines::plan_line;
 use planner::Planner;
 use session::add_calls;
 use std::alloc::{AllocError, Global};
@@ -16,8 +17,7 @@ mod lines;
 mod make;
 mod session;
 
-/// The most bytes of input.
-pub const INPUT: usize = 32768;
+pub use console::INPUT;
 
 /// All that is printed on an input, with the planner over this store.
 pub fn output<S: Store + Drop>(heap: Global, store: S, input: &[u8]) -> Result<String, AllocError>

@@ -1,16 +1,17 @@
-// The lines that are printed.
-ghost use Rattle.std.specs.Prelude.{◌≡◌, [], ◌∷◌, ◌++◌, IfOk, Some, string_bytes, OnOk};
+// The lines that are printed beside those of the program that knows no calls.
+ghost use Rattle.std.specs.Prelude.{◌≡◌, [], ◌∷◌, IfOk, Some, string_bytes, OnOk};
 ghost use Rattle.model.specs.Plans.{Load};
 ghost use Rattle.planner.specs.States.{loaded};
+ghost use Rattle.console.specs.Lines.{Appends, plan_line};
 ghost use Rattle.console_calls.specs.Calls.{word_of};
-ghost use Rattle.console_calls.specs.Lines.{plan_line, refused_line, stop_line, spaced, told_line, denied_line};
+ghost use Rattle.console_calls.specs.Lines.{spaced, told_line, denied_line};
 
 use crate::call::CallKind;
+use console::lines;
 use model::refusal::Refusal;
 use planner::Planner;
 use std::alloc::{AllocError, Global};
 use store::Store;
-use text::fault::Fault;
 
 /// The line of the plan that was loaded; there is none before a load.
 pub fn plan_line<S: Store>(heap: Global, planner: &Planner<S>) -> Result<String, AllocError>

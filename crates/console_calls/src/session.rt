@@ -7,8 +7,9 @@ ghost use Rattle.console_calls.specs.Sessions.{Adds, Session};
 ghost use Rattle.console_calls.specs.Making.{Lined};
 
 use crate::call::CallKind;
-use crate::lines::{add_denied, add_stop, add_told};
+use crate::lines::{add_denied, add_told};
 use crate::make::make;
+use console::lines::add_stop;
 use model::bounds::WIDTH;
 use planner::Planner;
 use std::alloc::AllocError;

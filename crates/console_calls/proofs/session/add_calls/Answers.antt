@@ -4,7 +4,7 @@ use Rattle.text.specs.Readers.{place_of}
 use Rattle.text.specs.Fields.{part, field_at}
 use Rattle.planner.specs.States.{state}
 use Rattle.console_calls.specs.Calls.{call_kind}
-use Rattle.console_calls.specs.Lines.{stop_line}
+use Rattle.console.specs.Lines.{stop_line}
 use Rattle.console_calls.specs.Sessions.{IsCall, Goes, starts}
 use Rattle.console_calls.proofs.Sessions.{allowed, goes_on, adds_both}
 use Rattle.console_calls.proofs.session.add_calls.Goals as goal
