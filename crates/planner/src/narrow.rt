@@ -41,7 +41,9 @@ impl<S: Store> Planner<S> {
     }
 }
 
-// The store's calls, and what they are to a planner that holds a plan.
+// The store's calls, and what they are to a planner that was given a plan.
+// kept: an inner method for each, as a closure would have to say of every store what each of the three does; without them the
+// public calls have proof files, where a wrong edit would be refused first (tried: the search does not find them with the lemmas named).
 impl<S: Store> Planner<S> {
     fn strike_loaded(&mut self, g: usize, p: u16) -> Result<u16, Refusal>
         ensures whole { is_ok result ≡ false → self.new ≡ self.old }
