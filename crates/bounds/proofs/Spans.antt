@@ -10,7 +10,8 @@ use Rattle.store.specs.Calls.{Kept}
 use Rattle.store.proofs.Members.{is_false, false_not, true_is}
 use Rattle.store.proofs.Meanings.{at_same, at_other, appended_nil}
 use Rattle.store.proofs.Domains.{open_gate, open_width, open_has, open_is}
-use Rattle.store.proofs.Counts.{ascending_agree, ascending_next, one_fewer}
+use Rattle.model.proofs.Meaning.{ascending_agree}
+use Rattle.store.proofs.Counts.{ascending_next, one_fewer}
 use Rattle.bounds.specs.declared.ends.Span.{Span}
 use Rattle.bounds.specs.Ends.{SpanOf, Covers}
 

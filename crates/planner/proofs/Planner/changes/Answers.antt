@@ -6,7 +6,7 @@ use Rattle.model.specs.Calls.{changes}
 use Rattle.model.specs.Ledgers.{ascending}
 use Rattle.model.specs.Planners as model
 use Rattle.store.specs.declared.Store.{Ghosts}
-use Rattle.store.proofs.Counts.{ascending_agree}
+use Rattle.model.proofs.Meaning.{ascending_agree}
 use Rattle.planner.specs.declared.Planner.{Planner as Held}
 use Rattle.book.specs.Notes.{notes_in}
 use Rattle.planner.specs.States.{loaded, state}

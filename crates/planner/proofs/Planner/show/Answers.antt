@@ -4,7 +4,7 @@ use Rattle.model.specs.Calls.{show}
 use Rattle.model.specs.Planners as model
 use Rattle.store.specs.Meaning.{domains}
 use Rattle.store.specs.declared.Store.{Ghosts}
-use Rattle.store.proofs.Counts.{ascending_agree}
+use Rattle.model.proofs.Meaning.{ascending_agree}
 use Rattle.planner.specs.declared.Planner.{Planner as Held}
 use Rattle.planner.specs.States.{loaded, state}
 use Rattle.lists.specs.Lists.{Marks, marked, Written}
