@@ -122,6 +122,7 @@ impl<'a> Store for Bits<'a> {
 }
 
 // The calls at a gate, a position or a mark that there is.
+// kept: methods of their own with what they need. Written out in the calls, bind and save are not found by the search, and an edit of them is refused in a proof file.
 impl<'a> Bits<'a> {
     fn strike_at(&mut self, g: usize, p: u16) -> u16
         requires gate { g < self.old.gates }
