@@ -8,7 +8,7 @@ use Rattle.store.specs.Calls.{Kept}
 use Rattle.store.proofs.Sweeps.{outs, sweep_leaves}
 use Rattle.rows.specs.declared.Row.{Row}
 use Rattle.rows.specs.Rows.{lit}
-use Rattle.bits.specs.Representation.{row_at}
+use Rattle.bits.specs.Representation.{row_at, count_at}
 use Rattle.bits.specs.Meanings.{meaning}
 use Rattle.bits.specs.declared.Bits.{Bits}
 use Rattle.bits.proofs.Moves.{both_not}
@@ -16,9 +16,9 @@ use Rattle.bits.proofs.Openings.{open_bit, count_is}
 
 -- the row is the gate's without the positions that are kept
 pub swept_kept : (s s' : Bits) (g : ℕ) → g < s.gates → (out : Row) (kept : ℕ → Bool)
-    → ((q : ℕ) → q < s.width → lit out q ≡ (lit (row_at s.rows g) q && not (kept q)))
+    → ((q : ℕ) → q < s.width → lit out q ≡ (lit (row_at s.domains g) q && not (kept q)))
     → meaning s' ≡ appended (meaning s) g (outs (meaning s) g (lit out) s.width)
-    → Kept (meaning s) g kept (Ok (get_or s'.count g 0)) (meaning s')
+    → Kept (meaning s) g kept (Ok (count_at s'.domains g)) (meaning s')
 swept_kept s s' g hg out kept h e = (
   outs (meaning s) g (lit out) s.width,
   sweep_leaves (meaning s) g (lit out) kept (λ q l o. h q l ∙ ap (λ b. b && not (kept q)) (open_bit s g q hg l o)),

@@ -14,12 +14,12 @@ use Rattle.bits.proofs.Moves.{marks_set}
 use Rattle.bits.proofs.Facts.{Facts, facts, on}
 
 pub save_kept : (s : Bits) → s.depth < most_marks → (len : ℕ) → len ≡ length (on s) →
-    Facts (room s.trail) (on s) s.gates s.width s.rows s.count (set s.marks s.depth len) (s.depth + 1)
+    Facts (room s.trail) (on s) s.gates s.width s.domains (set s.marks s.depth len) (s.depth + 1)
 save_kept s h len el =
     let f = s.fit in
     let l = s.long in
     let d = s.depth in
-    let long : d < length s.marks = omega (arith, l.2) in
+    let long : d < length s.marks = omega (arith, l.1) in
     let old : (e : ℕ) → e < d → get_or (set s.marks d len) e 0 ≡ get_or s.marks e 0 = λ e k. get_or-set_other s.marks d e len 0 (λ z. omega arith) in
     let new : (e : ℕ) → e ≡ d → get_or (set s.marks d len) e 0 ≡ len = λ e z. ap (λ j. get_or (set s.marks d len) j 0) z ∙ get_or-set_same s.marks d len 0 long in
     let marks : Marks (on s) (set s.marks d len) (d + 1) = λ x.
@@ -38,15 +38,15 @@ save_kept s h len el =
       omega arith,
     ))
     (cases_lt x.1 d) in
-    facts (room s.trail) (on s) s.gates s.width s.rows s.count (set s.marks d len) (d + 1)
-    (f.0, f.1, f.2, omega arith) (l.0, l.1, length-set s.marks d len ∙ l.2) s.listed s.apart s.tied s.counts marks
+    facts (room s.trail) (on s) s.gates s.width s.domains (set s.marks d len) (d + 1)
+    (f.0, f.1, f.2, omega arith) (l.0, length-set s.marks d len ∙ l.1) s.listed s.apart s.tied s.counts marks
 
 pub save_means : (s : Bits) → s.depth < most_marks → (len : ℕ) → len ≡ length (on s) →
     drawn (room s.trail) (on s) s.gates s.width (set s.marks s.depth len) (s.depth + 1) ≡ saved (meaning s)
 save_means s h len el =
     let d = s.depth in
     let z : d + 1 ≡ suc d = omega arith in
-    let long : d < length s.marks = omega (arith, s.long.2) in
+    let long : d < length s.marks = omega (arith, s.long.1) in
     let top : get_or (set s.marks d len) d 0 ≡ length (on s) = get_or-set_same s.marks d len 0 long ∙ el in
     same_meaning (drawn (room s.trail) (on s) s.gates s.width (set s.marks d len) (d + 1)) (saved (meaning s)) refl refl refl (λ _. refl)
     (ap (marks_of (on s) (set s.marks d len)) z

@@ -8,10 +8,10 @@ use Rattle.model.specs.Planners.{Once}
 use Rattle.model.proofs.Tests.{is_true}
 use Rattle.model.proofs.Meaning.{has_append}
 use Rattle.store.proofs.Members.{true_is, once_push, once_apart}
-use Rattle.rows.specs.declared.Row.{Row}
 use Rattle.rows.specs.Rows.{lit, Holds}
-use Rattle.bits.specs.Representation.{gone_in, bare, blank, row_at, Listed, Apart, Tied, Counts, Marks, marks_of}
+use Rattle.bits.specs.Representation.{gone_in, bare, blank, row_at, count_at, Listed, Apart, Tied, Counts, Marks, marks_of}
 use Rattle.bits.specs.Trails.{gone_append, gone_once}
+use Rattle.bits.specs.declared.domain.Domain.{Domain}
 use Rattle.bits.specs.declared.entry.Record.{Record}
 
 pub gone_same : (g : ℕ) (xs : List Record) (r : Record) → r.gate ≡ g → gone_in g (xs ++ r ∷ []) ≡ gone_in g xs ++ (r.position ∷ [])
@@ -105,33 +105,33 @@ module _ (xs : List Record) (r : Record) where
         let s = length_push xs r in
         subst (λ (y : Record). (y.gate < n) × (y.position < w)) record_at (h (length xs, omega arith))
 
-    -- the rows, where the row of the record's gate is another
-    module _ (rows : List Row) (row : Row) (long : r.gate < length rows) where
-      abbrev rows' : List Row
-      rows' = set rows r.gate row
+    -- the domains, where that of the record's gate is another
+    module _ (domains : List Domain) (d : Domain) (long : r.gate < length domains) where
+      abbrev domains' : List Domain
+      domains' = set domains r.gate d
 
-      pub tied_push : Tied xs n w rows → Holds row (λ q. lit (row_at rows r.gate) q && not (eqb q r.position)) → Tied longer n w rows'
+      pub tied_push : Tied xs n w domains → Holds d.row (λ q. lit (row_at domains r.gate) q && not (eqb q r.position)) → Tied longer n w domains'
       tied_push t h = λ x. ⊎_elim
           (λ (e : x.0 ≡ r.gate).
           let q = x.1 in
           let hg : r.gate < n = subst (λ g. g < n) e x.2 in
-          ap (λ g. lit (row_at rows' g) q) e ∙ ap (λ y. lit y q) (get_or-set_same rows r.gate row blank long)
+          ap (λ g. lit (row_at domains' g) q) e ∙ ap (λ (y : Domain). lit y.row q) (get_or-set_same domains r.gate d blank long)
           ∙ h q x.3 ∙ ap (λ b. b && not (eqb q r.position)) (t (r.gate, q, hg, x.3))
           ∙ both_not (ltb q w) (has (gone_in r.gate xs) q) (eqb q r.position)
           ∙ ap (λ b. ltb q w && not b) (sym (has_more q)) ∙ ap (λ g. ltb q w && not (has (gone_in g longer) q)) (sym e))
           (λ (ne : x.0 ≡ r.gate → ⊥).
-          ap (λ y. lit y x.1) (get_or-set_other rows r.gate x.0 row blank ne) ∙ t x
+          ap (λ (y : Domain). lit y.row x.1) (get_or-set_other domains r.gate x.0 d blank ne) ∙ t x
           ∙ ap (λ l. ltb x.1 w && not (has l x.1)) (sym (gone_other x.0 xs r (λ e. ne (sym e)))))
           (cases_eq x.0 r.gate)
 
-      pub tied_pop : Tied longer n w rows → r.position < w → has (gone_in r.gate xs) r.position ≡ false
-          → Holds row (λ q. eqb q r.position || lit (row_at rows r.gate) q) → Tied xs n w rows'
+      pub tied_pop : Tied longer n w domains → r.position < w → has (gone_in r.gate xs) r.position ≡ false
+          → Holds d.row (λ q. eqb q r.position || lit (row_at domains r.gate) q) → Tied xs n w domains'
       tied_pop t hp m h = λ x. ⊎_elim
           (λ (e : x.0 ≡ r.gate).
           let q = x.1 in
           let hg : r.gate < n = subst (λ g. g < n) e x.2 in
           let before = t (r.gate, q, hg, x.3) ∙ ap (λ b. ltb q w && not b) (has_more q) in
-          ap (λ g. lit (row_at rows' g) q) e ∙ ap (λ y. lit y q) (get_or-set_same rows r.gate row blank long)
+          ap (λ g. lit (row_at domains' g) q) e ∙ ap (λ (y : Domain). lit y.row q) (get_or-set_same domains r.gate d blank long)
           ∙ h q x.3 ∙ ap (λ b. eqb q r.position || b) before
           ∙ ⊎_elim
           (λ (f : q ≡ r.position).
@@ -141,31 +141,31 @@ module _ (xs : List Record) (r : Record) where
           (cases_eq q r.position)
           ∙ ap (λ g. ltb q w && not (has (gone_in g xs) q)) (sym e))
           (λ (ne : x.0 ≡ r.gate → ⊥).
-          ap (λ y. lit y x.1) (get_or-set_other rows r.gate x.0 row blank ne) ∙ t x
+          ap (λ (y : Domain). lit y.row x.1) (get_or-set_other domains r.gate x.0 d blank ne) ∙ t x
           ∙ ap (λ l. ltb x.1 w && not (has l x.1)) (gone_other x.0 xs r (λ e. ne (sym e))))
           (cases_eq x.0 r.gate)
 
-    module _ (count : List ℕ) (long : r.gate < length count) where
-      counts_set : (ys : List Record) (c : ℕ) → ((h : ℕ) → h < n → (h ≡ r.gate → ⊥) → get_or count h 0 ≡ w - length (gone_in h ys)) → c ≡ w - length (gone_in r.gate ys)
-          → Counts ys n w (set count r.gate c)
-      counts_set ys c f e = λ x. ⊎_elim
-          (λ (d : x.0 ≡ r.gate). ap (λ g. get_or (set count r.gate c) g 0) d ∙ get_or-set_same count r.gate c 0 long ∙ e ∙ ap (λ g. w - length (gone_in g ys)) (sym d))
-          (λ (ne : x.0 ≡ r.gate → ⊥). get_or-set_other count r.gate x.0 c 0 ne ∙ f x.0 x.1 ne)
+      counts_set : (ys : List Record) → ((h : ℕ) → h < n → (h ≡ r.gate → ⊥) → count_at domains h ≡ w - length (gone_in h ys)) → d.count ≡ w - length (gone_in r.gate ys)
+          → Counts ys n w domains'
+      counts_set ys f e = λ x. ⊎_elim
+          (λ (z : x.0 ≡ r.gate).
+          ap (count_at domains') z ∙ ap (λ (y : Domain). y.count) (get_or-set_same domains r.gate d blank long) ∙ e ∙ ap (λ g. w - length (gone_in g ys)) (sym z))
+          (λ (ne : x.0 ≡ r.gate → ⊥). ap (λ (y : Domain). y.count) (get_or-set_other domains r.gate x.0 d blank ne) ∙ f x.0 x.1 ne)
           (cases_eq x.0 r.gate)
 
-      pub counts_push : Counts xs n w count → r.gate < n → Counts longer n w (set count r.gate (get_or count r.gate 0 - 1))
-      counts_push c hg =
+      pub counts_push : Counts xs n w domains → r.gate < n → d.count ≡ count_at domains r.gate - 1 → Counts longer n w domains'
+      counts_push c hg less =
           let l : length (gone_in r.gate longer) ≡ length (gone_in r.gate xs) + 1 = ap length (gone_same r.gate xs r refl) ∙ length_push (gone_in r.gate xs) r.position in
-          counts_set longer (get_or count r.gate 0 - 1)
+          counts_set longer
           (λ h hh ne. c (h, hh) ∙ ap (λ ys. w - length ys) (sym (gone_other h xs r (λ e. ne (sym e)))))
-          (omega (arith, c (r.gate, hg)))
+          (omega (arith, c (r.gate, hg), less))
 
-      pub counts_pop : Counts longer n w count → length (gone_in r.gate longer) ≤ w → r.gate < n → Counts xs n w (set count r.gate (get_or count r.gate 0 + 1))
-      counts_pop c few hg =
+      pub counts_pop : Counts longer n w domains → length (gone_in r.gate longer) ≤ w → r.gate < n → d.count ≡ count_at domains r.gate + 1 → Counts xs n w domains'
+      counts_pop c few hg more =
           let l : length (gone_in r.gate longer) ≡ length (gone_in r.gate xs) + 1 = ap length (gone_same r.gate xs r refl) ∙ length_push (gone_in r.gate xs) r.position in
-          counts_set xs (get_or count r.gate 0 + 1)
+          counts_set xs
           (λ h hh ne. c (h, hh) ∙ ap (λ ys. w - length ys) (gone_other h xs r (λ e. ne (sym e))))
-          (omega (arith, c (r.gate, hg)))
+          (omega (arith, c (r.gate, hg), more))
 
 -- what the marks mean
 module _ (marks : List ℕ) where

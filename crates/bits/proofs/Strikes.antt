@@ -1,5 +1,5 @@
 -- One position leaves its gate.
-use Rattle.std.proofs.Common.{◌≡◌, ℕ, ◌-◌, ◌<◌, ◌≤◌, min, false, not, ◌&&◌, eqb, List, [], ◌∷◌, ◌++◌, length, get_or, set, sym, refl, ap, ◌∙◌, subst, ⊎_elim, arith}
+use Rattle.std.proofs.Common.{◌≡◌, ℕ, ◌-◌, ◌<◌, ◌≤◌, min, false, not, ◌&&◌, eqb, List, [], ◌∷◌, ◌++◌, length, set, sym, refl, ap, ◌∙◌, subst, ⊎_elim, arith}
 use Rattle.std.proofs.lemmas.List.{length-set}
 use Rattle.std.proofs.lemmas.Bool.{cases_eq}
 use Rattle.model.specs.Bounds.{most_cells}
@@ -9,8 +9,9 @@ use Rattle.store.specs.Meaning.{appended, changed_at}
 use Rattle.store.proofs.Meanings.{at_same, at_other, same_meaning}
 use Rattle.rows.specs.declared.Row.{Row}
 use Rattle.rows.specs.Rows.{lit, Holds}
-use Rattle.bits.specs.Representation.{gone_in, row_at, marks_of}
+use Rattle.bits.specs.Representation.{gone_in, row_at, count_at, marks_of}
 use Rattle.bits.specs.Meanings.{drawn, meaning}
+use Rattle.bits.specs.declared.domain.Domain.{Domain}
 use Rattle.bits.specs.declared.entry.Record.{Record}
 use Rattle.bits.specs.declared.Bits.{Bits}
 use Rattle.bits.proofs.Rooms.{gone_shorter}
@@ -19,28 +20,28 @@ use Rattle.bits.proofs.Facts.{Facts, facts, on}
 
 -- an open position leaves
 module _ (s : Bits) (g p : ℕ) (hg : g < s.gates) (hp : p < s.width) (o : has (gone_in g (on s)) p ≡ false) where
-  pub some_left : 1 ≤ get_or s.count g 0
+  pub some_left : 1 ≤ count_at s.domains g
   some_left = omega (arith, s.counts (g, hg), gone_shorter s g p hg hp o)
 
   abbrev new : Record
   new = record { gate = g; position = p }
 
   module _ (xs' : List Record) (e : xs' ≡ on s ++ new ∷ []) (cap : ℕ) (ec : cap ≡ room s.trail) where
-    pub strike_kept : (row : Row) → Holds row (λ q. lit (row_at s.rows g) q && not (eqb q p))
-        → Facts cap xs' s.gates s.width (set s.rows g row) (set s.count g (get_or s.count g 0 - 1)) s.marks s.depth
+    pub strike_kept : (row : Row) → Holds row (λ q. lit (row_at s.domains g) q && not (eqb q p))
+        → Facts cap xs' s.gates s.width (set s.domains g (record { row = row; count = count_at s.domains g - 1 })) s.marks s.depth
     strike_kept row h =
         let f = s.fit in
         let l = s.long in
-        let G : List Record → Type 0 = λ xs. Facts cap xs s.gates s.width (set s.rows g row) (set s.count g (get_or s.count g 0 - 1)) s.marks s.depth in
-        let hr : g < length s.rows = omega (arith, l.0, f.0) in
-        let hc : g < length s.count = omega (arith, l.1, f.0) in
-        subst G (sym e) (facts cap (on s ++ new ∷ []) s.gates s.width (set s.rows g row) (set s.count g (get_or s.count g 0 - 1)) s.marks s.depth
+        let G : List Record → Type 0 = λ xs. Facts cap xs s.gates s.width (set s.domains g (record { row = row; count = count_at s.domains g - 1 })) s.marks s.depth in
+        let hr : g < length s.domains = omega (arith, l.0, f.0) in
+        let d : Domain = record { row = row; count = count_at s.domains g - 1 } in
+        subst G (sym e) (facts cap (on s ++ new ∷ []) s.gates s.width (set s.domains g (record { row = row; count = count_at s.domains g - 1 })) s.marks s.depth
         (f.0, f.1, omega (arith, f.2), f.3)
-        (length-set s.rows g row ∙ l.0, length-set s.count g (get_or s.count g 0 - 1) ∙ l.1, l.2)
+        (length-set s.domains g d ∙ l.0, l.1)
         (listed_push (on s) new s.gates s.width s.listed hg hp)
         (apart_push (on s) new s.apart o)
-        (tied_push (on s) new s.gates s.width s.rows row hr s.tied h)
-        (counts_push (on s) new s.gates s.width s.count hc s.counts hg)
+        (tied_push (on s) new s.gates s.width s.domains d hr s.tied h)
+        (counts_push (on s) new s.gates s.width s.domains d hr s.counts hg refl)
         (marks_grow (on s) new s.marks s.depth s.marked))
 
     pub strike_means : drawn cap xs' s.gates s.width s.marks s.depth ≡ appended (meaning s) g (p ∷ [])

@@ -1,5 +1,5 @@
 -- A sweep goes along a row's positions.
-use Rattle.std.proofs.Common.{◌≡◌, ℕ, suc, zero, ◌+◌, ◌<◌, ◌≤◌, Bool, true, cond, not, ◌&&◌, ltb, List, [], ◌∷◌, ◌++◌, filter, Some, None, Result, sym, refl, ap, ap₂, ◌∙◌, subst, ⊎_elim, add-one, arith}
+use Rattle.std.proofs.Common.{◌≡◌, ℕ, suc, zero, ◌+◌, ◌<◌, ◌≤◌, Bool, cond, not, ◌&&◌, ltb, [], ◌∷◌, ◌++◌, filter, Some, None, Result, sym, refl, ap, ap₂, ◌∙◌, subst, ⊎_elim, add-one, arith}
 use mathlib.Core.Bool.{and-true}
 use Rattle.std.specs.List.{range_with_len}
 use Rattle.std.proofs.lemmas.Bool.{cases_lt, lt-ltb, le-ltb, and_from, and_left, and_right}

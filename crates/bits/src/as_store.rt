@@ -13,6 +13,7 @@ ghost use Rattle.bits.specs.Meanings.{meaning};
 ghost use Rattle.bits.specs.Soundness.{sound};
 
 use crate::Bits;
+use crate::domain::Domain;
 use crate::entry::Record;
 use model::bounds::{CELLS, GATES, MARKS};
 use model::refusal::Refusal;
@@ -30,10 +31,12 @@ impl<'a> Store for Bits<'a> {
 
     fn reset(&mut self, n: usize, w: u16) -> Result<(), Refusal> {
         self.check_size(n, w)?;
-        let full = Row::below(usize::from(w));
+        let full = Domain {
+            row: Row::below(usize::from(w)),
+            count: w,
+        };
         self.trail.clear();
-        self.rows = [full; GATES];
-        self.count = [w; GATES];
+        self.domains = [full; GATES];
         self.depth = 0;
         self.width = w;
         self.gates = n;
@@ -82,25 +85,25 @@ impl<'a> Store for Bits<'a> {
     #[tactic(auto, using(crate::proofs::Openings::bit_is))]
     fn contains(&self, g: usize, p: u16) -> Result<bool, Refusal> {
         self.check_position(g, p)?;
-        Ok(self.rows[g].contains(p as u8))
+        Ok(self.domains[g].row.contains(p as u8))
     }
 
     #[tactic(auto, using(crate::proofs::Openings::count_is))]
     fn count(&self, g: usize) -> Result<u16, Refusal> {
         self.check_gate(g)?;
-        Ok(self.count[g])
+        Ok(self.domains[g].count)
     }
 
     #[tactic(auto, using(crate::proofs::Openings::least_is))]
     fn lowest(&self, g: usize) -> Result<Option<u16>, Refusal> {
         self.check_gate(g)?;
-        Ok(self.rows[g].lowest())
+        Ok(self.domains[g].row.lowest())
     }
 
     #[tactic(auto, using(crate::proofs::Openings::greatest_is))]
     fn highest(&self, g: usize) -> Result<Option<u16>, Refusal> {
         self.check_gate(g)?;
-        Ok(self.rows[g].highest())
+        Ok(self.domains[g].row.highest())
     }
 
     #[tactic(auto, using(crate::proofs::Walks::gone_is))]
@@ -114,28 +117,30 @@ impl<'a> Store for Bits<'a> {
         if g >= self.gates || from >= self.width {
             return None;
         }
-        self.rows[g].next(from as u8)
+        self.domains[g].row.next(from as u8)
     }
 }
 
 // The calls at a gate, a position or a mark that there is.
+// kept: methods of their own with what they need. Written out in the calls, bind and save are not found by the search, and an edit of them is refused in a proof file.
 impl<'a> Bits<'a> {
     fn strike_at(&mut self, g: usize, p: u16) -> u16
         requires gate { g < self.old.gates }
         requires position { p < self.old.width }
         ensures { Strike (meaning self.old) g p (Ok result) (meaning self.new) }
     {
-        let row = self.rows[g];
-        if !row.contains(p as u8) {
+        let mut domain = self.domains[g];
+        if !domain.row.contains(p as u8) {
             return 0;
         }
-        self.rows[g].remove(p as u8);
+        domain.row.remove(p as u8);
+        domain.count -= 1;
         // there is room: no position leaves its gate twice
         let _ = self.trail.push(Record {
             gate: g as u8,
             position: p as u8,
         });
-        self.count[g] -= 1;
+        self.domains[g] = domain;
         1
     }
 
@@ -144,10 +149,10 @@ impl<'a> Bits<'a> {
         requires position { p < self.old.width }
         ensures { Kept (meaning self.old) g (λ q. nat_eq q p) (Ok result) (meaning self.new) }
     {
-        let mut out = self.rows[g];
+        let mut out = self.domains[g].row;
         out.remove(p as u8);
         self.sweep(g, &out);
-        self.count[g]
+        self.domains[g].count
     }
 
     fn keep_at(&mut self, g: usize, list: &[u16]) -> u16
@@ -155,12 +160,12 @@ impl<'a> Bits<'a> {
         requires positions { all_below self.old.width list.now ≡ true }
         ensures { Kept (meaning self.old) g (has list.now) (Ok result) (meaning self.new) }
     {
-        let mut out = self.rows[g];
+        let mut out = self.domains[g].row;
         for &p in list {
             out.remove(p as u8);
         }
         self.sweep(g, &out);
-        self.count[g]
+        self.domains[g].count
     }
 
     /// Strikes what the row has of the gate's open positions, in order.
@@ -190,8 +195,10 @@ impl<'a> Bits<'a> {
         while self.trail.len() > to {
             if let Some(r) = self.trail.pop() {
                 let g = usize::from(r.gate);
-                self.rows[g].insert(r.position);
-                self.count[g] += 1;
+                let mut domain = self.domains[g];
+                domain.row.insert(r.position);
+                domain.count += 1;
+                self.domains[g] = domain;
             }
         }
         self.depth -= 1;

@@ -5,6 +5,7 @@ ghost use Rattle.store.specs.Meaning.{fresh};
 ghost use Rattle.bits.specs.Meanings.{meaning};
 
 use crate::Bits;
+use crate::domain::Domain;
 use crate::entry::Record;
 use model::bounds::{GATES, MARKS};
 use rows::Row;
@@ -16,13 +17,15 @@ impl<'a> Bits<'a> {
         ensures { meaning result ≡ fresh (min (length slots.old) most_cells) 0 0 }
     {
         let trail = Stack::new(slots);
-        let none = Row::below(0);
+        let none = Domain {
+            row: Row::below(0),
+            count: 0,
+        };
         Bits {
             trail,
             gates: 0,
             width: 0,
-            rows: [none; GATES],
-            count: [0; GATES],
+            domains: [none; GATES],
             marks: [0; MARKS],
             depth: 0,
         }

@@ -2,6 +2,7 @@ use Rattle.std.proofs.Common.{◌≡◌, ◌-◌, ◌≤◌, length, get_or, tak
 use Rattle.std.proofs.lemmas.List.{take_all}
 use Rattle.model.specs.Bounds.{most_width}
 use Rattle.stack.specs.Stacks.{items, room}
+use Rattle.bits.specs.Representation.{count_at}
 use Rattle.bits.specs.Soundness.{length_marks}
 use Rattle.bits.proofs.Restoring.{one_less, undo_top, undo_front, back_gate, back_count, back_kept, restore_kept, restore_means}
 use Rattle.bits.proofs.Bits.back_to.Goals as goal
@@ -25,14 +26,11 @@ bounds-self-g c = omega (arith, c.from-g.ensures, back_gate c.loop-self.self (it
 pub bounds-self-g-in-Some : goal.bounds-self-g-in-Some
 bounds-self-g-in-Some c = omega (arith, c.from-g.ensures, back_gate c.loop-self.self (items c.pop.new.self) c.in-Some.r c.in-Some.ensures.0)
 
-pub bounds-self-g-in-Some-2 : goal.bounds-self-g-in-Some-2
-bounds-self-g-in-Some-2 c = omega (arith, c.from-g.ensures, back_gate c.loop-self.self (items c.pop.new.self) c.in-Some.r c.in-Some.ensures.0)
-
-pub overflow_add-self : goal.overflow_add-self
-overflow_add-self c =
+pub overflow_add-domain : goal.overflow_add-domain
+overflow_add-domain c =
     let s = c.loop-self.self in
     let e = c.from-g.ensures in
-    let b : get_or s.count c.from-g.result 0 ≤ most_width = rw e (back_count s (items c.pop.new.self) c.in-Some.r c.in-Some.ensures.0) in
+    let b : count_at s.domains c.from-g.result ≤ most_width = rw e (back_count s (items c.pop.new.self) c.in-Some.r c.in-Some.ensures.0) in
     search rules
 
 pub invariant_of-self : goal.invariant_of-self

@@ -19,8 +19,8 @@ returns-then-not-contains c =
       miss = λ _ _ _. (refl, refl);
     }
 
-pub overflow_sub-self : goal.overflow_sub-self
-overflow_sub-self c =
+pub overflow_sub-domain : goal.overflow_sub-domain
+overflow_sub-domain c =
     let s = c.args.self.now in
     let hg = c.requires.gate in
     let hp = c.requires.position in

@@ -1,4 +1,4 @@
-use Rattle.std.proofs.Common.{sym, ap, ◌∙◌, subst, arith}
+use Rattle.std.proofs.Common.{sym, ap, ◌∙◌, subst}
 use Rattle.bits.specs.Meanings.{meaning}
 use Rattle.bits.proofs.Sweeping.{Swept, swept_none, swept_turn, swept_all}
 use Rattle.bits.proofs.Bits.sweep.Goals as goal
