@@ -21,7 +21,7 @@ pub const INPUT: usize = 32768;
 
 /// All that is printed on an input, with the planner over this store.
 pub fn output<S: Store + Drop>(heap: Global, store: S, input: &[u8]) -> Result<String, AllocError>
-    ensures { IfOk result (λ s. Prints (S.Store.mean store).cells input.now (string_bytes s)) }
+    ensures { IfOk result (λ s. Prints (S.mean store).cells input.now (string_bytes s)) }
 {
     if input.len() > INPUT {
         return String::from_str(heap, "too long\n");
@@ -43,7 +43,7 @@ pub fn kept_output<S: Store + Drop>(
     store: S,
     input: &[u8],
 ) -> Result<String, AllocError>
-    ensures { IfOk result (λ s. Prints (S.Store.mean store).cells input.now (string_bytes s)) }
+    ensures { IfOk result (λ s. Prints (S.mean store).cells input.now (string_bytes s)) }
 {
     output(heap, Bounds::over(store), input)
 }

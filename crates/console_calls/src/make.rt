@@ -58,7 +58,7 @@ pub fn make<S: Store>(
     requires room { length list.old ≡ most_width }
     ensures long { length list.new ≡ most_width }
     ensures fits { Fits list.old result }
-    ensures made { Makes S.Store.mean S.Store.good planner.old (call_of kind payload.now) (λ n. numbers (take n list.new)) result planner.new }
+    ensures made { Makes planner.old (call_of kind payload.now) (λ n. numbers (take n list.new)) result planner.new }
 {
     let first = byte(payload, 0);
     let second = byte(payload, 1);

@@ -1,7 +1,7 @@
 // From the input's bytes to the lines.
-ghost use Rattle.std.specs.Prelude.{◌≡◌, ◌≤◌, true, length, string_bytes, OnOk};
+ghost use Rattle.std.specs.Prelude.{◌≡◌, ◌≤◌, true, length, Some, string_bytes, OnOk};
 ghost use Rattle.model.specs.Plans.{Load};
-ghost use Rattle.planner.specs.States.{Holds, state};
+ghost use Rattle.planner.specs.States.{loaded, state};
 ghost use Rattle.console_calls.specs.Calls.{allows, word_of, call_of};
 ghost use Rattle.console_calls.specs.Sessions.{Adds, Session};
 ghost use Rattle.console_calls.specs.Making.{Lined};
@@ -23,7 +23,7 @@ fn add_call<S: Store>(
     payload: &[u8],
 ) -> Result<(), AllocError>
     requires { allows kind (length payload.now) ≡ true }
-    ensures { OnOk result ((load : Load) → Holds S.Store.mean S.Store.good planner.old load → Holds S.Store.mean S.Store.good planner.new load × Adds (string_bytes out.old) (string_bytes out.new) (Lined load.plan (call_of kind payload.now) (word_of kind) (state S.Store.mean planner.old) (state S.Store.mean planner.new))) }
+    ensures { OnOk result ((load : Load) → loaded planner.old ≡ Some load → (loaded planner.new ≡ Some load) × Adds (string_bytes out.old) (string_bytes out.new) (Lined load.plan (call_of kind payload.now) (word_of kind) (state planner.old) (state planner.new))) }
 {
     let mut list = [0; WIDTH];
     match make(planner, kind, payload, &mut list) {
@@ -41,7 +41,7 @@ pub fn add_calls<S: Store>(
     read: usize,
 ) -> Result<(), AllocError>
     requires { read ≤ length input.now }
-    ensures { OnOk result ((load : Load) → Holds S.Store.mean S.Store.good planner.old load → Adds (string_bytes out.old) (string_bytes out.new) (Session load.plan input.now (state S.Store.mean planner.old) read)) }
+    ensures { OnOk result ((load : Load) → loaded planner.old ≡ Some load → Adds (string_bytes out.old) (string_bytes out.new) (Session load.plan input.now (state planner.old) read)) }
 {
     let mut reader = Reader::at(input, read);
     while reader.place() < input.len() {

@@ -17,4 +17,4 @@ returns-in-Ok g c =
     let x = found cells c.in-Ok.read (plan_text input) answer in
     let both = c.in-Ok.ensures.made x.0 x.1 refl in
     printed cells c.in-Ok.read input (string_bytes c.add_calls.new.out) (string_bytes c.in_ok-out-in-Ok.out) (omega (arith, c.if-input-gt-INPUT.false)) answer x.0 x.1
-    (state g.S.Store.mean c.load.new.self) both.1 (c.in_ok-out-in-Ok.ensures x.0.load both.0.given) (c.in_ok-add_calls-in-Ok.ensures x.0.load both.0)
+    (state c.load.new.self) both.2 (c.in_ok-out-in-Ok.ensures x.0.load both.0) (c.in_ok-add_calls-in-Ok.ensures x.0.load both.0)

@@ -20,7 +20,7 @@ loop-reader-init g c =
         (
           [],
           sym (append-nil (string_bytes c.args.out.now)),
-          let s = state g.S.Store.mean c.args.planner.now in
+          let s = state c.args.planner.now in
               subst (λ (k : ℕ). Goes load.plan input s c.args.read s k []) (sym at) starts,
         ),
       ),
@@ -50,9 +50,9 @@ loop-reader-preserved g c =
             (
               out.0 ++ line.0,
               adds_both (string_bytes c.args.out.now) (string_bytes c.loop-reader.out) (string_bytes c.add_call.new.out) out.0 line.0 out.1 line.1,
-              subst (λ (k : ℕ). Goes load.plan input (state g.S.Store.mean c.args.planner.now) c.args.read (state g.S.Store.mean c.add_call.new.planner) k (out.0 ++ line.0))
+              subst (λ (k : ℕ). Goes load.plan input (state c.args.planner.now) c.args.read (state c.add_call.new.planner) k (out.0 ++ line.0))
                   (sym at)
-                  (goes_on load.plan input (state g.S.Store.mean c.args.planner.now) (state g.S.Store.mean c.loop-reader.planner) (state g.S.Store.mean c.add_call.new.planner)
+                  (goes_on load.plan input (state c.args.planner.now) (state c.loop-reader.planner) (state c.add_call.new.planner)
                   c.args.read from out.0 line.0 (part c.in-Ok.field) out.2 is line.2),
             ),
           ),
