@@ -31,6 +31,7 @@ pub fn write_marked(row: &Row, w: u16, list: &mut [u16]) -> Option<usize>
     if list.len() < n {
         return None;
     }
+    // kept: counted first, so that a list that is too short stays as it was; then each marked place goes to the next place k.
     let mut k: usize = 0;
     for p in 0..w {
         if row[usize::from(p)] {
@@ -94,6 +95,7 @@ pub fn open_row<S: Store>(store: &S, g: usize) -> Row
     ensures { Marks result (S.mean store.now).width (domains (S.mean store.now) g) }
 {
     let mut row = [false; WIDTH];
+    // kept: a loop over the positions that there are; array::from_fn would ask the store for all WIDTH of them.
     for p in 0..store.width() {
         row[usize::from(p)] = store.is_open(g, p);
     }
