@@ -1,11 +1,14 @@
 -- What stands at the front of a list.
-use Rattle.std.proofs.Common.{◌≡◌, ℕ, ◌≤◌, List, [], ◌∷◌, length, take, set, Ok, Result, sym, refl, subst, arith, length-set}
+use Rattle.std.proofs.Common.{◌≡◌, ℕ, ◌≤◌, List, [], ◌∷◌, length, take, set, Ok, Err, Result, sym, refl, subst, arith, length-set}
 use Rattle.model.specs.declared.refusal.Refusal.{Refusal}
-use Rattle.model.specs.Calls.{Call}
+use Rattle.model.specs.Plans.{Plan}
+use Rattle.model.specs.Calls.{Question, Call, ask}
+use Rattle.model.specs.Planners.{Planner}
 use Rattle.model.specs.Answers.{numbers, Tells}
 use Rattle.store.specs.declared.Store.{Ghosts}
 use Rattle.planner.specs.declared.Planner.{Planner as Held}
 use Rattle.planner.specs.States.{state, Made, Makes}
+use Rattle.planner.specs.Lists.{Asks}
 use Rattle.console_calls.specs.Making.{Put}
 
 pub put_first : (list : List ℕ) (n : ℕ) (answer : Result ℕ Refusal) → 1 ≤ length list → answer ≡ Ok n → Put answer list (Ok 1) (set list 0 n)
@@ -15,18 +18,25 @@ put_first list n answer some e = subst (λ (a : Result ℕ Refusal). Put a list 
     front [] h = absurd (omega arith)
     front (x ∷ xs) h = refl
 
-module _ {S : Type 0} {g : Ghosts S} (p q : Held S g) (c : Call) where
-  -- a call that answers one number, which is put at the front of a list
-  pub put_makes : (answer : Result ℕ Refusal) (list after : List ℕ) (r : Result ℕ Refusal)
-      → Makes p c (λ a. numbers (a ∷ [])) answer q → Put answer list r after → Makes p c (λ n. numbers (take n after)) r q
-  put_makes (Ok n) list after r m t = λ load h.
-      let d = m load h in (
-        d.0,
-        subst (λ (x : Result ℕ Refusal). Made load.plan (state p) c (λ n. numbers (take n after)) x (state q)) (sym t.0)
-            (d.1.0, d.1.1, subst (λ (ns : List ℕ). Tells load.plan c (state p) (state q) (numbers ns)) (sym t.1) d.1.2),
-      )
-  put_makes (Err k) list after r m t = λ load h.
-      let d = m load h in (
-        d.0,
-        subst (λ (x : Result ℕ Refusal). Made load.plan (state p) c (λ n. numbers (take n after)) x (state q)) (sym t.0) d.1,
-      )
+-- A call that answers one number, which is put at the front of a list, by another name for the call.
+pub put_makes : {S : Type 0} {g : Ghosts S} (p q : Held S g) (c d : Call) (answer : Result ℕ Refusal) (list after : List ℕ) (r : Result ℕ Refusal)
+    → c ≡ d → Makes p d (λ a. numbers (a ∷ [])) answer q → Put answer list r after → Makes p c (λ n. numbers (take n after)) r q
+put_makes p q c d answer list after r e m t = subst (λ (x : Call). Makes p x (λ n. numbers (take n after)) r q) (sym e) (put answer r m t)
+  where
+    put : (answer r : Result ℕ Refusal) → Makes p d (λ a. numbers (a ∷ [])) answer q → Put answer list r after → Makes p d (λ n. numbers (take n after)) r q
+    put (Ok n) r m t = λ load h.
+        let made = m load h in (
+          made.0,
+          subst (λ (x : Result ℕ Refusal). Made load.plan (state p) d (λ k. numbers (take k after)) x (state q)) (sym t.0)
+              (made.1.0, made.1.1, subst (λ (ns : List ℕ). Tells load.plan d (state p) (state q) (numbers ns)) (sym t.1) made.1.2),
+        )
+    put (Err k) r m t = λ load h.
+        let made = m load h in (
+          made.0,
+          subst (λ (x : Result ℕ Refusal). Made load.plan (state p) d (λ k. numbers (take k after)) x (state q)) (sym t.0) made.1,
+        )
+
+-- A question alters nothing.
+pub asks_makes : {S : Type 0} {g : Ghosts S} (p : Held S g) (c : Call) (q : Question) (told : Plan → Planner → List ℕ) (list : List ℕ) (a : Result ℕ Refusal) (after : List ℕ)
+    → c ≡ ask q → Asks p q told list a after → Makes p c (λ n. numbers (take n after)) a p
+asks_makes p c q told list a after e m = subst (λ (x : Call). Makes p x (λ n. numbers (take n after)) a p) (sym e) (λ load h. (h, (m load h).0))

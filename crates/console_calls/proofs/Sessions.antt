@@ -1,15 +1,18 @@
 -- One call field more.
-use Rattle.std.proofs.Common.{◌≡◌, ℕ, ◌+◌, ◌-◌, ◌≤◌, Bool, true, false, cond, ltb, List, ◌++◌, length, take, drop, Some, None, Ok, Err, Option, Result, sym, refl, ap, ◌∙◌, subst, ⊎_elim, arith, length-drop}
+use Rattle.std.proofs.Common.{◌≡◌, ℕ, ◌+◌, ◌-◌, ◌≤◌, Bool, true, false, cond, ltb, List, ◌++◌, length, take, drop, Some, None, Ok, Err, Option, Result, sym, refl, ap, ◌∙◌, subst, inl, inr, ⊎_elim, arith, length-drop}
 use Rattle.std.proofs.lemmas.List.{append_assoc, length-take-le}
 use Rattle.std.proofs.lemmas.Bool.{ltb-false}
 use Rattle.model.specs.declared.refusal.Refusal.{Refusal}
 use Rattle.model.specs.declared.refusal.Refusal.TheVariants.{Truncated, UnknownTag, BadLength}
 use Rattle.model.specs.Plans.{Plan}
+use Rattle.model.specs.Calls.{Call}
 use Rattle.model.specs.Planners.{Planner}
+use Rattle.model.specs.Answers.{Answer, numbers}
+use Rattle.planner.specs.States.{Made}
 use Rattle.text.specs.Fields.{Part, field_at, next_at, prefix_at, with_prefix, with_kind}
 use Rattle.console_calls.specs.declared.call.CallKind.{CallKind}
 use Rattle.console_calls.specs.Calls.{named, allows, call_kind, call_of, word_of}
-use Rattle.console_calls.specs.Lines.{denied_line}
+use Rattle.console_calls.specs.Lines.{told_line, denied_line}
 use Rattle.console_calls.specs.Making.{Lined}
 use Rattle.console_calls.proofs.Printing.{fails}
 use Rattle.console_calls.specs.Sessions.{IsCall, Goes, told, denied}
@@ -63,3 +66,12 @@ goes_on plan input start s e from at out line p goes is lined =
 -- two things added, one behind the other
 pub adds_both : (before mid after out line : List ℕ) → mid ≡ before ++ out → after ≡ mid ++ line → after ≡ before ++ (out ++ line)
 adds_both before mid after out line a b = b ∙ ap (λ (xs : List ℕ). xs ++ line) a ∙ append_assoc before out line
+
+-- the line of an accepted call, and of a refused one
+pub told_made : (plan : Plan) (s e : Planner) (c : Call) (word : List ℕ) (n : ℕ) (list line : List ℕ)
+    → Made plan s c (λ k. numbers (take k list)) (Ok n) e → line ≡ told_line word (take n list) → Lined plan c word s e line
+told_made plan s e c word n list line m is = inl (take n list, m.0, m.1, m.2, is)
+
+pub denied_made : {A : Type 0} (plan : Plan) (s e : Planner) (c : Call) (word : List ℕ) (tell : A → Answer) (k : Refusal) (line : List ℕ)
+    → Made plan s c tell (Err k) e → line ≡ denied_line word k → Lined plan c word s e line
+denied_made plan s e c word tell k line m is = inr (k, m.0, m.1, is)

@@ -1,6 +1,7 @@
 // The calls, made on a planner.
-ghost use Rattle.std.specs.Prelude.{◌≡◌, ◌+◌, ◌≤◌, true, length, take, drop, slice_index};
+ghost use Rattle.std.specs.Prelude.{◌≡◌, ◌+◌, ◌≤◌, true, [], ◌∷◌, length, take, drop, slice_index};
 ghost use Rattle.model.specs.Bounds.{most_width};
+ghost use Rattle.model.specs.Calls.{narrow, strike, bind};
 ghost use Rattle.model.specs.Answers.{numbers};
 ghost use Rattle.planner.specs.States.{Makes};
 ghost use Rattle.planner.specs.Lists.{Fits};
@@ -45,6 +46,20 @@ fn put(answer: Result<u16, Refusal>, list: &mut [u16]) -> Result<usize, Refusal>
     Ok(1)
 }
 
+/// The planner's strike. A function of its own, so that another call in its place is refused here.
+fn strike<S: Store>(planner: &mut Planner<S>, g: usize, p: u16) -> Result<u16, Refusal>
+    ensures { Makes planner.old (narrow (strike g p)) (λ a. numbers (a ∷ [])) result planner.new }
+{
+    planner.strike(g, p)
+}
+
+/// The planner's bind, likewise.
+fn bind<S: Store>(planner: &mut Planner<S>, g: usize, p: u16) -> Result<u16, Refusal>
+    ensures { Makes planner.old (narrow (bind g p)) (λ a. numbers (a ∷ [])) result planner.new }
+{
+    planner.bind(g, p)
+}
+
 /// Makes the call that the payload says. What it tells is written at the front of the list; the answer is how many numbers that is.
 pub fn make<S: Store>(
     planner: &mut Planner<S>,
@@ -61,8 +76,8 @@ pub fn make<S: Store>(
     let first = byte(payload, 0);
     let second = byte(payload, 1);
     match kind {
-        CallKind::Strike => put(planner.strike(usize::from(first), u16::from(second)), list),
-        CallKind::Bind => put(planner.bind(usize::from(first), u16::from(second)), list),
+        CallKind::Strike => put(strike(planner, usize::from(first), u16::from(second)), list),
+        CallKind::Bind => put(bind(planner, usize::from(first), u16::from(second)), list),
         CallKind::Keep => {
             let mut kept = [0; WIDTH];
             let many = positions(payload, &mut kept);
