@@ -184,6 +184,7 @@ impl<'a> Bits<'a> {
     {
         self.marks[self.depth] = len;
         self.depth += 1;
+        // kept: `as` narrows what fits, as the proof shows; `try_from` would add a way out that does not come
         self.depth as u16
     }
 

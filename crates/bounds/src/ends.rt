@@ -2,14 +2,14 @@
 use model::bounds::{GATES, MARKS};
 
 /// The lowest and the highest open position of a gate.
-#[derive(Clone, Copy)]
+#[derive(Clone, Copy, Debug, PartialEq, Eq, Hash)]
 pub struct Span {
     pub lowest: u16,
     pub highest: u16,
 }
 
 /// The span of each gate, none where nothing is open.
-#[derive(Clone, Copy)]
+#[derive(Clone, Copy, Debug, PartialEq, Eq)]
 pub struct Ends {
     pub spans: [Option<Span>; GATES],
 }

@@ -20,6 +20,7 @@ pub enum CallKind {
     Show,
 }
 
+// kept: `as`, since a constant is made of a constant, where `TryFrom` cannot be called.
 /// The longest payload of keep: a gate, and as many positions as a gate can have.
 const KEEP_LEN: u16 = 1 + WIDTH as u16;
 
@@ -27,6 +28,7 @@ impl Kinds for CallKind {
     ghost made = { call_kind };
 
     fn of(tag: u8, len: u16, left: usize) -> Result<CallKind, Refusal> {
+        // kept: the bytes left are a guard of this one match, so that refusals 1, 2 and 3 and their order stand in one place.
         match (tag, len) {
             _ if left < usize::from(len) => Err(Refusal::Truncated),
             (0x11, 2) => Ok(CallKind::Strike),

@@ -58,6 +58,7 @@ pub fn gone_lengths<S: Store>(store: &S) -> [u16; GATES]
     array::from_fn(|g| gone_length(store, g))
 }
 
+// kept: that the gate is there stands in the requires of these three: a value that bears it out would hold the store's loan.
 /// The k-th position that has left the gate.
 fn gone_at<S: Store>(store: &S, g: usize, k: usize) -> u16
     requires gate { g < (S.mean store.now).gates }

@@ -10,5 +10,6 @@ pub(crate) use take::judge;
 #[derive(Clone, Copy)]
 pub(crate) struct Draft {
     pub(crate) plan: Plan,
+    // kept: beside the plan's rows of starts, since the plan is handed out as it stands and has no use for it.
     listed: [bool; GATES],
 }

@@ -42,6 +42,7 @@ pub fn begin<S: Store>(store: &mut S, plan: &Plan) -> Result<(), Refusal>
     ensures begun { result ≡ Ok tt → Begun (load_of plan.now) (S.mean store.new) }
 {
     let n = plan.gates();
+    // kept: `as`, since a width is within u16; `try_from` would add a way out that does not come
     store.reset(n, plan.width() as u16)?;
     for g in 0..n {
         keep_starts(store, plan, g);

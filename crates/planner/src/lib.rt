@@ -15,6 +15,7 @@ mod questions;
 mod readers;
 mod saves;
 
+// kept: that a call is refused without a plan, and that a refused call leaves all as it was, are clauses of each call, as they are its promises.
 /// Each open save is a mark of the store with the book's notes beside it.
 #[derive(Drop)]
 pub struct Planner<S: Store> {

@@ -104,6 +104,7 @@ impl Row {
         if rest == 0 {
             None
         } else {
+            // kept: `as` narrows what fits, as the proof shows; `try_from` would add a way out that does not come
             Some((BITS * at.word + at.bit) as u16 + rest.trailing_zeros() as u16)
         }
     }

@@ -12,7 +12,7 @@ const BITS: usize = 64;
 const WORDS: usize = WIDTH / BITS;
 
 /// A set of positions: bit p % 64 of word p / 64 says whether position p is in it.
-#[derive(Clone, Copy)]
+#[derive(Clone, Copy, Debug, PartialEq, Eq, Hash)]
 pub struct Row {
     words: [u64; WORDS],
 }

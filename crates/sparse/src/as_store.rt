@@ -85,6 +85,7 @@ impl<'a> Store for Sparse<'a> {
         }
         self.marks[self.depth] = self.size;
         self.depth += 1;
+        // kept: `as` narrows what fits, as the proof shows; `try_from` would add a way out that does not come
         Ok(self.depth as u16)
     }
 

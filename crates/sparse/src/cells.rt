@@ -83,6 +83,7 @@ impl<'a> Cells<'a> {
         requires within { all_below w list.now ≡ true }
         ensures { Gathered base w count list.now result self.old.dom.now self.old.map.now self.new.dom.now self.new.map.now }
     {
+        // kept: the front is where the next one goes, and the answer; a fold would lend the cells to its closure and read no plainer.
         let mut front: u16 = 0;
         for &p in list {
             let at = self.map[base + usize::from(p)];

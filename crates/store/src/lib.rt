@@ -11,6 +11,7 @@ use model::refusal::Refusal;
 
 pub mod list;
 
+// kept: that a refused call leaves the store as it was is a clause of each call, as it is each call's promise.
 /// No call has a precondition; a refused one leaves the store as it was.
 pub trait Store {
     ghost mean: { Self → Meaning };

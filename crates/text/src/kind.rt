@@ -23,6 +23,7 @@ pub enum RuleKind {
     Total,
 }
 
+// kept: `as` here and below, since a constant is made of a constant, where `TryFrom` cannot be called.
 /// The longest payload of Positions: a gate, and a first and a last position for each range.
 const POSITIONS_LEN: u16 = 1 + 2 * RANGES as u16;
 /// The longest payload of Total: low and high, and a gate and a weight for each member.
@@ -32,6 +33,7 @@ impl Kinds for PlanKind {
     ghost made = { plan_kind };
 
     fn of(tag: u8, len: u16, left: usize) -> Result<PlanKind, Refusal> {
+        // kept: the bytes left are a guard of this one match, so that refusals 1, 2 and 3 and their order stand in one place.
         match (tag, len) {
             _ if left < usize::from(len) => Err(Refusal::Truncated),
             (0x01, 3) => Ok(PlanKind::Head),

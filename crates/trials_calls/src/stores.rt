@@ -13,7 +13,7 @@ use store::Store;
 
 /// The kinds of store, and the layers on them.
 // kept: a switch, since stores of different types cannot stand in one list of values.
-#[derive(Clone, Copy)]
+#[derive(Clone, Copy, Debug, PartialEq, Eq)]
 pub enum Kind {
     Sparse,
     Bits,
