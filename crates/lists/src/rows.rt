@@ -1,5 +1,5 @@
 // Rows of marks, and what a store says of a gate in one.
-ghost use Rattle.std.specs.Prelude.{◌≡◌, ℕ, ◌<◌, ◌≤◌, length, filter, take, drop, slice_index};
+ghost use Rattle.std.specs.Prelude.{◌≡◌, ℕ, ◌<◌, ◌≤◌, ◌++◌, length, filter, take, drop, slice_index};
 ghost use Rattle.model.specs.Families.{has};
 ghost use Rattle.model.specs.Bounds.{most_width};
 ghost use Rattle.store.specs.Meaning.{domains};
@@ -21,24 +21,29 @@ fn count_marked(row: &Row, w: u16) -> usize
     row[..usize::from(w)].iter().filter(|mark| **mark).count()
 }
 
+/// Writes the marked places, ascending, at the front of a list that has room for them.
+fn put_marked(row: &Row, w: u16, list: &mut [u16])
+    requires width { w ≤ most_width }
+    requires room { length (marked row.now w) ≤ length list.old }
+    ensures { list.new ≡ marked row.now w ++ drop (length (marked row.now w)) list.old }
+{
+    for (k, p) in (0..w).filter(|&p| row[usize::from(p)]).enumerate() {
+        list[k] = p;
+    }
+}
+
 /// Writes the marked places, ascending, at the front of the list, if it has room for them.
 #[tactic(auto, using(crate::proofs::Marking::marked_count))]
 pub fn write_marked(row: &Row, w: u16, list: &mut [u16]) -> Option<usize>
     requires { w ≤ most_width }
     ensures { Written (marked row.now w) list.old result list.new }
 {
+    // counted first, so that a list that is too short stays as it was
     let n = count_marked(row, w);
     if list.len() < n {
         return None;
     }
-    // kept: counted first, so that a list that is too short stays as it was; then each marked place goes to the next place k.
-    let mut k: usize = 0;
-    for p in 0..w {
-        if row[usize::from(p)] {
-            list[k] = p;
-            k += 1;
-        }
-    }
+    put_marked(row, w, list);
     Some(n)
 }
 

@@ -16,7 +16,7 @@ fn start_row(plan: &Plan, g: usize) -> Row
     ensures { Marks result most_width ((load_of plan.now).start g) }
 {
     let mut row = [false; WIDTH];
-    // kept: a loop; array::from_fn at this many places was proved only by a proof file, where a wrong gate would be refused first.
+    // kept: a loop; array::from_fn with a lemma named by `using` left `returns` open, and a wrong gate is refused first in the proof file that closes it.
     for p in 0..WIDTH {
         row[p] = plan.starts_with(g, p);
     }
