@@ -43,9 +43,6 @@ invariant_of-self c =
     back_kept s ys r p.0 c.from-g.result c.from-g.ensures (room c.pop.new.self) p.1 c.insert.new.self c.insert.ensures
     (undo_top c.args.self.now s (omega arith) i.2 i.3 (length ys) (omega (arith, c.len.ensures, one_less (items s.trail) ys r p.0)))
 
-pub loop-self-smaller-in-Some : goal.loop-self-smaller-in-Some
-loop-self-smaller-in-Some c = omega (arith, one_less (items c.loop-self.self.trail) (items c.pop.new.self) c.in-Some.r c.in-Some.ensures.0)
-
 pub loop-self-preserved-in-Some : goal.loop-self-preserved-in-Some
 loop-self-preserved-in-Some c =
     let xs = items c.loop-self.self.trail in
@@ -55,16 +52,6 @@ loop-self-preserved-in-Some c =
     let p = c.in-Some.ensures in
     let l = one_less xs ys r p.0 in
     (i.0, i.1, i.2, i.3, p.1 ∙ i.4, omega (arith, c.len.ensures), undo_front xs ys (items c.args.self.now.trail) r p.0 i.6)
-
--- the trail is longer than the mark, so it is not empty
-pub invariant_of-self-in_default : goal.invariant_of-self-in_default
-invariant_of-self-in_default c = absurd (omega (arith, c.len.ensures, c.in_default.ensures.0))
-
-pub loop-self-smaller : goal.loop-self-smaller
-loop-self-smaller c = absurd (omega (arith, c.len.ensures, c.in_default.ensures.0))
-
-pub loop-self-preserved : goal.loop-self-preserved
-loop-self-preserved c = absurd (omega (arith, c.len.ensures, c.in_default.ensures.0))
 
 pub invariant_of-self-2 : goal.invariant_of-self-2
 invariant_of-self-2 c = restore_kept c.loop-self.self (c.loop-self.self.depth - 1) (omega arith)

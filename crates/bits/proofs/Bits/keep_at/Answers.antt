@@ -1,26 +1,10 @@
-use Rattle.std.proofs.Common.{◌≡◌, ◌<◌, not, ◌&&◌, eqb, get_or, take, sym, ap, ◌∙◌, arith, rules}
-use mathlib.Core.Bool.{and-true}
+use Rattle.std.proofs.Common.{◌≡◌, not, ◌&&◌, eqb, get_or, take, ap, ◌∙◌, arith}
 use Rattle.std.proofs.lemmas.List.{take_all}
-use Rattle.model.specs.Bounds.{most_width}
 use Rattle.model.specs.Families.{has}
-use Rattle.model.specs.Planners.{all_below}
-use Rattle.store.proofs.Members.{true_is, all_below_at}
 use Rattle.rows.specs.Rows.{lit}
 use Rattle.bits.specs.Representation.{row_at}
 use Rattle.bits.proofs.Keeping.{swept_kept, removed_more}
 use Rattle.bits.proofs.Bits.keep_at.Goals as goal
-
-pub loop-p-init : goal.loop-p-init
-loop-p-init c = λ q _. sym (and-true (lit (row_at c.args.self.now.domains c.args.g) q))
-
-pub overflow_cast-p : goal.overflow_cast-p
-overflow_cast-p c =
-    let s = c.args.self.now in
-    let xs = c.args.list.now in
-    let i = c.loop-p.p-index in
-    let below = all_below_at s.width xs (true_is (all_below s.width xs) c.requires.positions) i c.loop-p-test.true in
-    let b : get_or xs i 0 < most_width = omega (arith, below, s.fit.1) in
-    search rules
 
 pub loop-p-preserved : goal.loop-p-preserved
 loop-p-preserved c = λ q l.

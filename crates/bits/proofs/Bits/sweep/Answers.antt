@@ -1,16 +1,7 @@
-use Rattle.std.proofs.Common.{sym, ap, ◌∙◌, subst}
+use Rattle.std.proofs.Common.{sym, ◌∙◌, subst}
 use Rattle.bits.specs.Meanings.{meaning}
-use Rattle.bits.proofs.Sweeping.{Swept, swept_none, swept_turn, swept_all}
+use Rattle.bits.proofs.Sweeping.{Swept, swept_turn, swept_all}
 use Rattle.bits.proofs.Bits.sweep.Goals as goal
-
-pub loop-q-init : goal.loop-q-init
-loop-q-init c =
-    let s = c.args.self.now in
-    let e = c.into_iter-q-iterator.ensures.into_iter_gives in
-    let at = c.positions-q-items.ensures in (
-      ap (λ i. i.row) e ∙ at.0,
-      subst (λ n. Swept s c.args.g c.args.out.now n (meaning s)) (sym (ap (λ i. i.from) e ∙ at.1)) (swept_none s c.args.g c.args.out.now),
-    )
 
 pub loop-q-preserved : goal.loop-q-preserved
 loop-q-preserved c =
