@@ -1,4 +1,4 @@
-use Rattle.std.proofs.Common.{◌≡◌, ℕ, ◌-◌, ◌<◌, true, false, List, length, get_or, take, drop, set, refl, ap, ◌∙◌, le_refl, arith, length-drop, length-set, take_all}
+use Rattle.std.proofs.Common.{◌≡◌, ℕ, ◌-◌, ◌<◌, true, false, length, get_or, take, drop, set, refl, ap, ◌∙◌, le_refl, arith, length-set}
 use Rattle.model.specs.Families.{has}
 use Rattle.model.specs.Bounds.{most_width}
 use Rattle.store.proofs.Members.{all_below_at}
@@ -12,17 +12,6 @@ loop-k-init g c =
       le_refl c.args.from,
       λ p h. all_false most_width p ∙ ap (λ (n : ℕ). has (take n xs) p) (let z : 0 ≡ c.args.from - c.args.from = omega arith in z),
     )
-
-pub gone_at-p-requires : goal.gone_at-p-requires
-gone_at-p-requires g c = record { gate = c.requires.gate; place = omega (arith, c.requires.end) }
-
-pub bounds-row-from : goal.bounds-row-from
-bounds-row-from g c =
-    let m = g.S.Store.mean c.args.store.now in
-    let s = g.S.Store.sound c.args.store.now in
-    let l = c.requires.end in
-    let b = all_below_at m.width (m.gone c.args.g) (s.below c.args.g) c.loop-k.k (omega arith) in
-    omega (arith, s.few_positions, c.gone_at-p.ensures, c.from.ensures)
 
 pub loop-k-preserved : goal.loop-k-preserved
 loop-k-preserved g c =
@@ -38,10 +27,3 @@ loop-k-preserved g c =
           ap (λ (v : ℕ). get_or (set c.loop-k.row v true) p false) (c.from.ensures ∙ c.gone_at-p.ensures)
           ∙ mark_more c.loop-k.row xs c.args.from c.loop-k.k c.loop-k.invariant.0 c.loop-k.invariant.1 inside (omega (arith, s.few_positions)) c.loop-k.invariant.2 p h,
     )
-
-pub returns : goal.returns
-returns g c = λ whole p h.
-    let xs = (g.S.Store.mean c.args.store.now).gone c.args.g in
-    let l = c.requires.end in
-    let n = length-drop c.args.from xs in
-    c.loop-k.invariant.2 p h ∙ ap (λ (ys : List ℕ). has ys p) (take_all (c.loop-k.k - c.args.from) (drop c.args.from xs) (omega (arith, c.loop-k-test.false)))
