@@ -80,6 +80,7 @@ fn gone_between<S: Store>(store: &S, g: usize, from: usize, end: usize) -> Row
     ensures { end ≡ length ((S.mean store.now).gone g) → Marks result most_width (has (drop from ((S.mean store.now).gone g))) }
 {
     let mut row = [false; WIDTH];
+    // kept: a loop over the places, since a store hands out what has gone one at a time.
     for k in from..end {
         let p = gone_at(store, g, k);
         row[usize::from(p)] = true;
