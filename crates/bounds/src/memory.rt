@@ -25,13 +25,12 @@ impl Ends {
 impl Memory {
     /// All w positions of each gate are open.
     pub fn reset(&mut self, w: u16)
-        requires { 0 < w }
         ensures ends { self.new.ends.spans ≡ replicate most_gates (Some (record { lowest = 0; highest = w - 1 })) }
         ensures saved { self.new.saved ≡ self.old.saved }
     {
         let whole = Span {
             lowest: 0,
-            highest: w - 1,
+            highest: w.saturating_sub(1),
         };
         self.ends.spans = [Some(whole); GATES];
     }

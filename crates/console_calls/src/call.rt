@@ -1,5 +1,5 @@
 // The fields of calls.
-ghost use Rattle.std.specs.Prelude.{Some};
+ghost use Rattle.std.specs.Prelude.{◌≡◌, Some};
 ghost use Rattle.console_calls.specs.Calls.{call_kind, word_of};
 
 use model::bounds::WIDTH;
@@ -45,12 +45,12 @@ impl Kinds for CallKind {
     }
 }
 
-/// The word of the call's line.
-impl fmt::Display for CallKind {
-    ghost output = { λ kind. Some (word_of kind) };
-
-    fn fmt<W: fmt::Write>(&self, f: &mut fmt::Formatter<W>) -> fmt::Result {
-        f.write_str(match self {
+impl CallKind {
+    /// The word of the call's line.
+    pub fn word(self) -> &'static str
+        ensures { result.now ≡ word_of self }
+    {
+        match self {
             CallKind::Strike => "strike",
             CallKind::Bind => "bind",
             CallKind::Keep => "keep",
@@ -59,6 +59,15 @@ impl fmt::Display for CallKind {
             CallKind::Note => "note",
             CallKind::Changes => "changes",
             CallKind::Show => "show",
-        })
+        }
+    }
+}
+
+/// A call is told by its word.
+impl fmt::Display for CallKind {
+    ghost output = { λ kind. Some (word_of kind) };
+
+    fn fmt<W: fmt::Write>(&self, f: &mut fmt::Formatter<W>) -> fmt::Result {
+        f.write_str(self.word())
     }
 }

@@ -1,5 +1,5 @@
 // The lines that are printed beside those of the program that knows no calls.
-// kept: functions on a String, here and in console, as `write!` is one; a struct round the text would only wrap it.
+// kept: functions on a String, here and in console, as `write!` works on one; a struct round the text would only wrap it.
 ghost use Rattle.std.specs.Prelude.{◌≡◌, [], ◌∷◌, IfOk, Some, string_bytes, OnOk};
 ghost use Rattle.model.specs.Plans.{Load};
 ghost use Rattle.planner.specs.States.{loaded};

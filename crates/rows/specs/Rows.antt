@@ -1,16 +1,15 @@
 -- What a row of bits holds.
 use Rattle.std.specs.Prelude.{◌≡◌, ℕ, ◌/◌, ◌%◌, ◌^◌, ◌<◌, ◌≤◌, Bool, true, false, List, Some, None, Option, ◌==◌, slice_index}
 use Rattle.model.specs.Bounds.{most_width}
-use Rattle.rows.specs.declared.TheConstants.{BITS}
 use Rattle.rows.specs.declared.Row.{Row}
 
 -- digit k of a number, the lowest first
 unfoldable pub bit : ℕ → ℕ → Bool
 bit n k = n / 2 ^ k % 2 == 1
 
--- bit q of words
+-- bit q of words of 64 bits
 abbrev pub held : List ℕ → ℕ → Bool
-held words q = bit (slice_index words (q / BITS)) (q % BITS)
+held words q = bit (slice_index words (q / 64)) (q % 64)
 
 -- the row holds the position
 abbrev pub lit : Row → ℕ → Bool
