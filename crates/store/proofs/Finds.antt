@@ -82,7 +82,7 @@ module _ {F : Type 0} {g : Mut F (Bor ℕ × Unit {0}) Bool} (f : F) (Yes No : �
   counted : (s t : RangeInclusive ℕ) (x : ℕ) → nat_range_inclusive_steps_back s (Some x) t → x ≡ range_inclusive_start s + rest t
   counted s t x e =
       let was : rest s ≡ range_inclusive_end s + 1 - range_inclusive_start s =
-          ⊎_elim (λ (z : range_inclusive_exhausted s ≡ true). absurd (omega (arith, e.1.1, rest_spent s z))) (λ (z : range_inclusive_exhausted s ≡ false). rest_fresh s z) (cases_Bool (range_inclusive_exhausted s)) in
+      ⊎_elim (λ (z : range_inclusive_exhausted s ≡ true). absurd (omega (arith, e.1.1, rest_spent s z))) (λ (z : range_inclusive_exhausted s ≡ false). rest_fresh s z) (cases_Bool (range_inclusive_exhausted s)) in
       omega (arith, e.1.0, e.1.1, was)
 
   pub last_from_RangeInclusive : (s u : Rev (RangeInclusive ℕ)) (r : Option ℕ) → range_inclusive_exhausted (rev_source s) ≡ false
