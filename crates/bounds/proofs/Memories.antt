@@ -1,10 +1,10 @@
 -- What is remembered stays right as the store narrows, saves and restores.
-use Rattle.std.proofs.Common.{◌≡◌, ◌≢◌, ℕ, zero, suc, ◌-◌, ◌<◌, ◌≤◌, List, [], ◌∷◌, ◌++◌, length, get_or, take, replicate, Some, None, Option, MatchOption, IfSome, sym, refl, ap, ◌∙◌, subst, ⊎_elim, arith}
+use Rattle.std.proofs.Common.{◌≡◌, ◌≢◌, ℕ, zero, suc, ◌-◌, ◌<◌, ◌≤◌, List, [], ◌∷◌, ◌++◌, length, get_or, take, replicate, Some, None, Option, IfSome, sym, refl, ap, ◌∙◌, subst, ⊎_elim, arith}
 use Rattle.std.proofs.Math.Seq.{take-length}
 use Rattle.std.proofs.lemmas.List.{take-append-le, get_or-replicate}
 use Rattle.std.proofs.lemmas.Bool.{cases_eq}
 use Rattle.model.specs.Bounds.{most_gates, most_marks}
-use Rattle.store.specs.Meaning.{Meaning, Sound, Marked, changed_at, appended, fresh, saved, cut, restored}
+use Rattle.store.specs.Meaning.{Meaning, Sound, Marked, changed_at, appended, fresh, saved, cut}
 use Rattle.store.proofs.Meanings.{at_same, at_other, same_meaning}
 use Rattle.bounds.specs.declared.ends.Ends.{Ends}
 use Rattle.bounds.specs.declared.ends.Memory.{Memory}
@@ -92,23 +92,3 @@ remembered_saved m m' x x' i is here ends newest others r =
         held_below m m.marks x.saved x'.saved (λ j l. others j (λ e. omega arith)) r.marks,
       );
     })
-
-pub remembered_restored : (m m' : Meaning) (x x' : Memory) (i : ℕ) → m' ≡ restored m → 0 < length m.marks → i ≡ length m.marks - 1
-    → MatchOption (get_or x.saved i None) (Right m' x'.ends) (λ ends. x'.ends ≡ ends) → x'.saved ≡ x.saved → Remembered m x → Remembered m' x'
-remembered_restored m m' x x' i is some here ends same r =
-    let b = back m.marks some here r.marks in
-    subst (λ (n : Meaning). Remembered n x') (sym is) (record {
-      ends = taken (get_or x.saved i None) (subst (λ (n : Meaning). MatchOption (get_or x.saved i None) (Right n x'.ends) (λ ends. x'.ends ≡ ends)) is ends) b.0;
-      marks = subst (Held (restored m) (restored m).marks) (sym same) b.1;
-    })
-  where
-    back : (ks : List (ℕ → ℕ)) → 0 < length ks → i ≡ length ks - 1 → Held m ks x.saved
-        → IfSome (get_or x.saved i None) (Right (cut m ks)) × Held (cut m ks) (cut m ks).marks x.saved
-    back [] some here h = absurd (omega arith)
-    back (k ∷ ks) some here h =
-        let e : length ks ≡ i = omega arith in
-        (subst (λ (j : ℕ). IfSome (get_or x.saved j None) (Right (cut m (k ∷ ks)))) e h.0, h.1)
-
-    taken : (o : Option Ends) → MatchOption o (Right (restored m) x'.ends) (λ ends. x'.ends ≡ ends) → IfSome o (Right (restored m)) → Right (restored m) x'.ends
-    taken None found h = found
-    taken (Some ends) e h = subst (Right (restored m)) (sym e) h

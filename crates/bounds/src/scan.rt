@@ -29,13 +29,7 @@ pub fn inward<S: Store>(store: &S, g: usize, span: Option<Span>) -> Option<Span>
 fn last_open<S: Store>(store: &S, g: usize, from: u16, to: u16) -> Option<u16>
     ensures { LastOpen (S.mean store.now) g from to result }
 {
-    // kept: with find the proof did not close
-    for p in (from..=to).rev() {
-        if store.is_open(g, p) {
-            return Some(p);
-        }
-    }
-    None
+    (from..=to).rev().find(|&p| store.is_open(g, p))
 }
 
 /// The span that a bind to p leaves: of p alone, or of none.

@@ -4,3 +4,4 @@ pub mod Domains
 pub mod Counts
 pub mod Sweeps
 pub mod Accepted
+pub mod Finds

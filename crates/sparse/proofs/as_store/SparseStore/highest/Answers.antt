@@ -3,7 +3,8 @@ use borrow.Author.Tests.{tests}
 use Rattle.std.specs.Iterator.Adapters.{rev_source}
 use Rattle.store.specs.Calls.{Contains}
 use Rattle.sparse.specs.Meanings.{meaning}
-use Rattle.sparse.proofs.Finds.{last_from_Range, greatest_found}
+use Rattle.store.proofs.Finds.{last_from_Range}
+use Rattle.sparse.proofs.Finds.{greatest_found}
 use Rattle.sparse.proofs.as_store.SparseStore.highest.Goals as goal
 
 pub returns : goal.returns
