@@ -80,7 +80,7 @@ fn gone_between<S: Store>(store: &S, g: usize, from: usize, end: usize) -> Row
     ensures { end ≡ length ((S.mean store.now).gone g) → Marks result most_width (has (drop from ((S.mean store.now).gone g))) }
 {
     let mut row = [false; WIDTH];
-    // kept: a loop over the places, since a store hands out what has gone one at a time.
+    // kept: `(from..end).for_each(|k| row[usize::from(gone_at(store, g, k))] = true)` is no plainer, and left `returns` open: no proof knows the row after it.
     for k in from..end {
         let p = gone_at(store, g, k);
         row[usize::from(p)] = true;
@@ -102,7 +102,8 @@ pub fn open_row<S: Store>(store: &S, g: usize) -> Row
     ensures { Marks result (S.mean store.now).width (domains (S.mean store.now) g) }
 {
     let mut row = [false; WIDTH];
-    // kept: a loop over the positions that there are; array::from_fn would ask the store for all WIDTH of them.
+    // kept: `(0..store.width()).zip(row.iter_mut())` tells a proof nothing of the row, `row[..].iter_mut().enumerate()` has to narrow p by `as`,
+    // and array::from_fn would ask the store for all WIDTH positions, not those that there are.
     for p in 0..store.width() {
         row[usize::from(p)] = store.is_open(g, p);
     }

@@ -16,9 +16,8 @@ fn start_row(plan: &Plan, g: usize) -> Row
     ensures { Marks result most_width ((load_of plan.now).start g) }
 {
     let mut row = [false; WIDTH];
-    // kept: a loop; array::from_fn with a lemma named by `using` left `returns` open, and a wrong gate is refused first in the proof file that closes it.
-    for p in 0..WIDTH {
-        row[p] = plan.starts_with(g, p);
+    for (p, mark) in row.iter_mut().enumerate() {
+        *mark = plan.starts_with(g, p);
     }
     row
 }

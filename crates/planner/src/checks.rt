@@ -14,11 +14,7 @@ impl<S: Store> Planner<S> {
     pub(crate) fn check_loaded(&self) -> Result<(), Refusal>
         ensures { PlanCheck (loaded self.now) result }
     {
-        if self.plan.is_some() {
-            Ok(())
-        } else {
-            Err(Refusal::NoPlan)
-        }
+        self.plan.as_ref().map(|_| ()).ok_or(Refusal::NoPlan)
     }
 }
 
