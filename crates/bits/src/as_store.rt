@@ -1,4 +1,5 @@
 // A bit store is a store.
+// kept: `as` narrows what fits, as the proofs show; `try_from` would add a way out that does not come
 ghost use Rattle.std.specs.Prelude.{◌≡◌, ◌-◌, ◌<◌, true, length, Ok, nat_eq, slice_get, slice_index};
 ghost use Rattle.model.specs.Bounds.{most_marks};
 ghost use Rattle.model.specs.Families.{has};
@@ -114,9 +115,7 @@ impl<'a> Store for Bits<'a> {
 
     #[tactic(auto, using(crate::proofs::Openings::next_is))]
     fn next_open(&self, g: usize, from: u16) -> Option<u16> {
-        if g >= self.gates || from >= self.width {
-            return None;
-        }
+        self.check_position(g, from).ok()?;
         self.domains[g].row.next(from as u8)
     }
 }
@@ -184,7 +183,6 @@ impl<'a> Bits<'a> {
     {
         self.marks[self.depth] = len;
         self.depth += 1;
-        // kept: `as` narrows what fits, as the proof shows; `try_from` would add a way out that does not come
         self.depth as u16
     }
 

@@ -1,13 +1,16 @@
 // What the program gateplan prints on its input: the lines, as one text.
 #![tactic(auto)]
 
-ghost use Rattle.std.specs.Prelude.{◌≡◌, ◌≤◌, length, IfOk, string_bytes, OnOk};
-ghost use Rattle.console.specs.Lines.{Appends, behind_plan, printed};
+ghost use Rattle.std.specs.Prelude.{◌≡◌, ◌+◌, ◌≤◌, length, take, IfOk, IfSome, string_bytes, OnOk};
+ghost use Rattle.std.specs.Io.Take.{take_inner, take_limit};
+ghost use Rattle.console.specs.Lines.{Appends, most_input, behind_plan, printed};
 
 use call::CallKind;
 use lines::{add_stop, plan_line, refused_line};
 use plan::read::read_plan;
 use std::alloc::{AllocError, Global};
+use std::io;
+use std::io::{Read, Take};
 use text::reader::Reader;
 
 pub mod call;
@@ -15,6 +18,23 @@ pub mod lines;
 
 /// The most bytes of input.
 pub const INPUT: usize = 32768;
+
+/// A reader of one byte more than is taken, by which a longer input is told.
+fn limited<R: Read>(from: R) -> Take<R>
+    ensures limit { take_limit result ≡ most_input + 1 }
+    ensures inner { take_inner result ≡ from }
+{
+    from.take(INPUT as u64 + 1)
+}
+
+/// Reads the input; of a longer one only the first bytes, one more than is taken.
+pub fn read_input<R: Read + Drop>(heap: Global, from: R) -> io::Result<Vec<u8>>
+    ensures { IfSome (R.remaining from) (λ bytes. IfOk result (λ input. input.items ≡ take (most_input + 1) bytes)) }
+{
+    let mut input = Vec::new(heap);
+    limited(from).read_to_end(&mut input)?;
+    Ok(input)
+}
 
 /// Adds the lines of what stands behind the plan.
 fn add_calls(out: &mut String, input: &[u8], read: usize) -> Result<(), AllocError>

@@ -1,4 +1,5 @@
 // The lines that are printed.
+// kept: functions on a String, as `write!` works on one; a struct round the text would only wrap it.
 ghost use Rattle.std.specs.Prelude.{◌≡◌, IfOk, string_bytes, OnOk};
 ghost use Rattle.plan.specs.Views.{load_of};
 ghost use Rattle.console.specs.Lines.{plan_line, refused_line, stop_line, Appends};

@@ -17,7 +17,7 @@ mod lines;
 mod make;
 mod session;
 
-pub use console::INPUT;
+pub use console::{INPUT, read_input};
 
 /// All that is printed on an input, with the planner over this store.
 pub fn output<S: Store + Drop>(heap: Global, store: S, input: &[u8]) -> Result<String, AllocError>

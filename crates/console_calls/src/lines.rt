@@ -39,8 +39,7 @@ pub fn add_told(out: &mut String, kind: CallKind, numbers: &[u16]) -> Result<(),
     for n in numbers {
         add_number(out, *n)?;
     }
-    out.push_str("\n")?;
-    Ok(())
+    writeln!(out)
 }
 
 /// Adds the line of a refused call.

@@ -28,10 +28,9 @@ fn add_call<S: Store>(
 {
     let mut list = [0; WIDTH];
     match make(planner, kind, payload, &mut list) {
-        Ok(many) => add_told(out, kind, &list[..many])?,
-        Err(refusal) => add_denied(out, kind, refusal)?,
+        Ok(many) => add_told(out, kind, &list[..many]),
+        Err(refusal) => add_denied(out, kind, refusal),
     }
-    Ok(())
 }
 
 /// Makes the calls from a place of the input on, and adds the line of each, up to the end or to a field that is no call.
@@ -48,10 +47,7 @@ pub fn add_calls<S: Store>(
     while reader.place() < input.len() {
         match reader.next::<CallKind>() {
             Ok(field) => add_call(out, planner, field.kind, field.payload)?,
-            Err(fault) => {
-                add_stop(out, fault)?;
-                return Ok(());
-            }
+            Err(fault) => return add_stop(out, fault),
         }
     }
     Ok(())

@@ -1,19 +1,13 @@
 // Reads a plan and calls from standard input, and prints what console_calls says, over a keeper of bounds on a sparse store.
 #![tactic(auto)]
 
-use console_calls::{INPUT, kept_output};
+use console_calls::{kept_output, read_input};
 use model::bounds::CELLS;
 use sparse::Sparse;
 use std::io;
-use std::io::Read;
 
-/// One byte more than is taken, by which a longer input is told.
-const ROOM: u64 = INPUT as u64 + 1;
-
-// kept: `gateplan` reads in the same two lines; a function for them would need a crate of its own.
 fn main(rt: HostRuntime) -> io::Result<()> {
-    let mut input = Vec::new(rt.alloc());
-    rt.stdin().take(ROOM).read_to_end(&mut input)?;
+    let input = read_input(rt.alloc(), rt.stdin())?;
     let mut dom = [0; CELLS];
     let mut map = [0; CELLS];
     let store = Sparse::new(&mut dom, &mut map);

@@ -1,4 +1,5 @@
 // What a row does.
+// kept: `as` narrows what fits, as the proofs show; `try_from` would add a way out that does not come
 ghost use Rattle.std.specs.Prelude.{◌≡◌, ℕ, ◌+◌, ◌*◌, ◌/◌, ◌%◌, ◌<◌, not, ◌&&◌, ◌||◌, ◌==◌, nat_lt};
 ghost use Rattle.rows.specs.declared.TheConstants.{BITS, WORDS};
 ghost use Rattle.rows.specs.Rows.{bit, lit, Holds, Next, NextIn, Last, LastIn};
@@ -104,7 +105,6 @@ impl Row {
         if rest == 0 {
             None
         } else {
-            // kept: `as` narrows what fits, as the proof shows; `try_from` would add a way out that does not come
             Some((BITS * at.word + at.bit) as u16 + rest.trailing_zeros() as u16)
         }
     }

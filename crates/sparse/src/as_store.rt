@@ -1,4 +1,5 @@
 // A sparse store in the caller's memory, and what it answers to each call.
+// kept: `as` narrows what fits, as the proofs show; `try_from` would add a way out that does not come
 ghost use Rattle.std.specs.Prelude.{◌≡◌, min, length};
 ghost use Rattle.model.specs.Bounds.{most_cells};
 ghost use Rattle.store.specs.Meaning.{fresh};
@@ -85,7 +86,6 @@ impl<'a> Store for Sparse<'a> {
         }
         self.marks[self.depth] = self.size;
         self.depth += 1;
-        // kept: `as` narrows what fits, as the proof shows; `try_from` would add a way out that does not come
         Ok(self.depth as u16)
     }
 

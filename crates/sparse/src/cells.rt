@@ -1,4 +1,5 @@
 // The caller's memory: the position at each place of a gate, and the place of each position.
+// kept: `as` narrows what fits, as the proofs show; `try_from` would add a way out that does not come
 ghost use Rattle.std.specs.Prelude.{◌≡◌, ℕ, ◌+◌, ◌%◌, ◌<◌, ◌≤◌, true, ◌&&◌, length, nat_le, nat_lt, slice_index};
 ghost use Rattle.model.specs.Planners.{all_below};
 ghost use Rattle.sparse.specs.Arrays.{Perm, from, dom_swapped, map_swapped, Gathered};

@@ -1,5 +1,6 @@
 use Rattle.std.proofs.Common.{string_bytes, codes, sym, arith}
 use Rattle.std.proofs.lemmas.List.{append-nil}
+use Rattle.std.proofs.lemmas.Result.{on_ok_weaker}
 use Rattle.console_calls.specs.Calls.{word_of}
 use Rattle.console_calls.proofs.Spacing.{one_more, line}
 use Rattle.console_calls.proofs.lines.add_told.Goals as goal
@@ -14,5 +15,7 @@ loop-n-preserved c =
 
 pub returns : goal.returns
 returns c =
-    line (string_bytes c.args.out.now) (word_of c.args.kind) c.args.numbers.now (codes "\n") (string_bytes c.write.new.self) (string_bytes c.loop-n.out)
-    (string_bytes c.push_str.new.self) c.loop-n.n-index (omega arith) c.in_ok-write.ensures.bytes c.loop-n.invariant c.in_ok-push_str.ensures.bytes
+    on_ok_weaker c.writeln.result
+    (line (string_bytes c.args.out.now) (word_of c.args.kind) c.args.numbers.now (codes "\n") (string_bytes c.write.new.self) (string_bytes c.loop-n.out)
+    (string_bytes c.writeln.new.self) c.loop-n.n-index (omega arith) c.in_ok-write.ensures.bytes c.loop-n.invariant)
+    c.writeln.ensures.bytes

@@ -1,5 +1,6 @@
 use Rattle.std.proofs.Common.{◌≡◌, ℕ, ◌≤◌, List, [], ◌++◌, length, string_bytes, sym, refl, ap, ◌∙◌, subst, inr, arith}
 use Rattle.std.proofs.lemmas.List.{append-nil}
+use Rattle.std.proofs.lemmas.Result.{on_ok_weaker}
 use Rattle.text.specs.Readers.{place_of}
 use Rattle.text.specs.Fields.{part, field_at}
 use Rattle.planner.specs.States.{state}
@@ -59,13 +60,13 @@ loop-reader-preserved g c =
     )
 
 pub returns-in-Err : goal.returns-in-Err
-returns-in-Err g c = λ load h.
+returns-in-Err g c = on_ok_weaker c.add_stop.result (λ added load h.
     let inv = c.loop-reader.invariant in
     let from = place_of c.loop-reader.reader in
     let so = inv.2 load h in
     let out = so.1 in
     let e = c.in-Err.fault in (
       out.0 ++ stop_line e,
-      adds_both (string_bytes c.args.out.now) (string_bytes c.loop-reader.out) (string_bytes c.add_stop.new.out) out.0 (stop_line e) out.1 c.in_ok-add_stop-in-Err.ensures,
+      adds_both (string_bytes c.args.out.now) (string_bytes c.loop-reader.out) (string_bytes c.add_stop.new.out) out.0 (stop_line e) out.1 added,
       record { last = _; at = from; lines = out.0; goes = out.2; ends = inr (omega (arith, c.place.ensures), (e, ap (λ (t : List ℕ). field_at call_kind t from) (sym inv.0) ∙ sym c.in-Err.ensures.value, refl)) },
-    )
+    )) c.add_stop.ensures
