@@ -1,6 +1,7 @@
 -- The bytes of parts, part by part.
-use Rattle.std.proofs.Common.{◌≡◌, ◌<◌, ◌+◌, ℕ, List, [], ◌∷◌, ◌++◌, length, take, drop, get_or, Result, Ok, Err, IsOkAnd, refl, sym, ◌∙◌, ap}
+use Rattle.std.proofs.Common.{rules, ◌≡◌, ◌<◌, ◌+◌, ℕ, zero, suc, List, [], ◌∷◌, ◌++◌, length, take, drop, get_or, Result, Ok, Err, IsOkAnd, refl, sym, ◌∙◌, ap}
 use Rattle.std.proofs.lemmas.List.{append_assoc, append-nil, drop_more, take-append-drop}
+use Rattle.std.specs.List.{repeat}
 use Rattle.cases.specs.declared.error.CaseError.{CaseError}
 use Rattle.cases.specs.Hexadecimal.{part_bytes, joined, parts_bytes}
 
@@ -44,3 +45,24 @@ parts_bytes-stop all n part a e inside at so_far stop =
     ∙ parts_bytes-append (take n all) (part ∷ drop (n + 1) all)
     ∙ ap (λ r. joined r (joined (part_bytes part) (parts_bytes (drop (n + 1) all)))) so_far
     ∙ ap (λ r. joined (Ok a) (joined r (parts_bytes (drop (n + 1) all)))) stop
+
+one_more : (n : ℕ) → suc n ≡ n + 1
+one_more n = search (rules)
+
+-- the last of n + 1 times is as the first
+repeat_last : (once : List ℕ) (n : ℕ) → repeat n once ++ once ≡ repeat (suc n) once
+repeat_last once zero = sym (append-nil once)
+repeat_last once (suc n) = append_assoc once (repeat n once) once ∙ ap (λ xs. once ++ xs) (repeat_last once n)
+
+-- once more behind n times
+pub once_more : (bs so_far once : List ℕ) (n : ℕ) → so_far ≡ bs ++ repeat n once → so_far ++ once ≡ bs ++ repeat (n + 1) once
+once_more bs so_far once n h = ap (λ xs. xs ++ once) h ∙ append_assoc bs (repeat n once) once ∙ ap (λ xs. bs ++ xs) (repeat_last once n) ∙ ap (λ k. bs ++ repeat k once) (one_more n)
+
+repeat_none : (n : ℕ) → repeat {A = ℕ} n [] ≡ []
+repeat_none zero = refl
+repeat_none (suc n) = repeat_none n
+
+-- nothing, however often, adds nothing
+pub nothing_added : (bs once : List ℕ) (n : ℕ) → length once ≡ 0 → bs ≡ bs ++ repeat n once
+nothing_added bs [] n h = sym (ap (λ xs. bs ++ xs) (repeat_none n) ∙ append-nil bs)
+nothing_added bs (x ∷ xs) n h = search (h)

@@ -1,6 +1,7 @@
 -- Bytes from hexadecimal, in parts that may be repeated, as in `cafe ab*3`.
 use Rattle.std.specs.Prelude.{ℕ, zero, suc, ◌==◌, ◌&&◌, ◌^◌, nat_lt, Bool, if◌then◌else◌, List, [], ◌∷◌, ◌++◌, length, Result, Ok, Err}
-use Rattle.std.specs.List.{before_first, after_first, position_or_len, slice_split, repeat}
+use Rattle.std.specs.List.{before_first, after_first, position_or_len, slice_split, repeat, list_any}
+use Rattle.std.specs.Char.{is_ascii_uppercase}
 use Rattle.std.specs.Str.{all_ascii_digits}
 use Rattle.std.specs.Str.Parse.{without_leading_plus, digits_value}
 use Rattle.hex.specs.Hex.{decode_of}
@@ -33,15 +34,24 @@ digits_of part = if has_star part then before_first is_star part else part
 abbrev pub times_of : List ℕ → ℕ
 times_of part = if has_star part then number_or_zero (after_first is_star part) else 1
 
+-- all that the library's reader does not take is not hexadecimal
+abbrev pub or_not_hexadecimal : Result (List ℕ) FromHexError → Result (List ℕ) CaseError
+or_not_hexadecimal (Ok bytes) = Ok bytes
+or_not_hexadecimal (Err e) = Err NotHexadecimal
+
+-- the bytes that digits write; the library's reader takes capital letters too, and they are no digits here
+abbrev pub digit_bytes : List ℕ → Result (List ℕ) CaseError
+digit_bytes digits = if list_any is_ascii_uppercase digits then Err NotHexadecimal else or_not_hexadecimal (decode_of digits)
+
 -- bytes n times behind one another; of none it does not matter what they would be
-abbrev pub times_over : ℕ → Result (List ℕ) FromHexError → Result (List ℕ) CaseError
+abbrev pub times_over : ℕ → Result (List ℕ) CaseError → Result (List ℕ) CaseError
 times_over zero r = Ok []
 times_over (suc n) (Ok bytes) = Ok (repeat (suc n) bytes)
-times_over (suc n) (Err e) = Err NotHexadecimal
+times_over (suc n) (Err e) = Err e
 
 -- the bytes of one part
 abbrev pub part_bytes : List ℕ → Result (List ℕ) CaseError
-part_bytes part = times_over (times_of part) (decode_of (digits_of part))
+part_bytes part = times_over (times_of part) (digit_bytes (digits_of part))
 
 -- two runs of bytes behind one another, or the first error
 abbrev pub joined : Result (List ℕ) CaseError → Result (List ℕ) CaseError → Result (List ℕ) CaseError

@@ -23,7 +23,7 @@ impl fmt::Display for CaseError {
         match self {
             CaseError::NoName => write!(f, "a case has a name and an input"),
             CaseError::NotHexadecimal => write!(f, "an input is hexadecimal"),
-            CaseError::OutOfMemory => write!(f, "out of memory"),
+            CaseError::OutOfMemory => write!(f, "memory allocation failed"),
         }
     }
 }

@@ -7,7 +7,7 @@
 
 use cases::told::{NamedLines, ToldPlan};
 use cases::{Case, for_each};
-use std::io::Read;
+use std::io::BufRead;
 
 mod direct;
 mod log;
@@ -46,9 +46,16 @@ fn run_case(rt: &HostRuntime, case: &Case<'_>) -> anyhow::Result<()> {
 }
 
 fn main(rt: HostRuntime) -> anyhow::Result<()> {
-    let mut text = String::new(rt.alloc());
-    rt.stdin().read_to_string(&mut text)?;
-    for_each(rt.alloc(), text.as_str(), |case| run_case(&rt, &case))?;
+    let mut reader = rt.reader();
+    let mut line = String::new(rt.alloc());
+    // A line at a time: what is printed of a case stands before the next is read, and no more than one line is held.
+    for _ in 0..u64::MAX {
+        line.clear();
+        if reader.read_line(&mut line)? == 0 {
+            break;
+        }
+        for_each(rt.alloc(), line.as_str(), |case| run_case(&rt, &case))?;
+    }
     run_job(&rt, "store", &StoreCalls)?;
     run_job(&rt, "planners", &PlannerCalls)
 }
