@@ -56,11 +56,19 @@ fn gone_length<S: Store>(store: &S, g: usize) -> u16
     width - store.count(g).unwrap_or(width)
 }
 
+/// The same for a gate below `gates`. For another the store is not asked: a small plan is not to cost as much as a large one.
+fn gone_length_below<S: Store>(store: &S, gates: usize, g: usize) -> u16
+    ensures { g < gates → result ≡ length ((S.mean store.now).gone g) }
+{
+    if g < gates { gone_length(store, g) } else { 0 }
+}
+
 /// How many positions have left each gate.
 pub fn gone_lengths<S: Store>(store: &S) -> [u16; GATES]
     ensures { (g : ℕ) → g < (S.mean store.now).gates → slice_index result g ≡ length ((S.mean store.now).gone g) }
 {
-    array::from_fn(|g| gone_length(store, g))
+    let gates = store.gates();
+    array::from_fn(|g| gone_length_below(store, gates, g))
 }
 
 // kept: that the gate is there stands in the requires of these three: a value that bears it out would hold the store's loan.
