@@ -1,12 +1,11 @@
 -- Rows of marks.
-use Rattle.std.proofs.Common.{◌≡◌, ℕ, zero, suc, ◌+◌, ◌-◌, ◌<◌, ◌≤◌, Bool, true, false, cond, ◌||◌, eqb, List, [], ◌∷◌, ◌++◌, length, filter, map, get_or, take, drop, set, replicate, Some, None, Result, sym, refl, ap, ◌∙◌, ap₂, ⊎_elim, add-one, arith, length-append, length-drop, take_all}
-use Rattle.std.specs.List.{range_with_len, enumerate_from, list_all}
+use Rattle.std.proofs.Common.{◌≡◌, ℕ, zero, suc, ◌+◌, ◌-◌, ◌<◌, ◌≤◌, Bool, true, false, cond, ◌||◌, eqb, List, [], ◌∷◌, ◌++◌, length, filter, get_or, take, drop, set, replicate, Some, None, Result, sym, refl, ap, ◌∙◌, ⊎_elim, add-one, arith, length-append, length-drop, take_all}
+use Rattle.std.specs.List.{range_with_len, list_all}
 use Rattle.std.specs.Result.{result_unwrap_or}
-use Rattle.std.proofs.lemmas.List.FromFn.{length-range_with_len, get_or-range_with_len, length-enumerate_from, get_or-enumerate_from}
+use Rattle.std.proofs.lemmas.List.FromFn.{length-range_with_len, get_or-range_with_len}
 use Rattle.std.proofs.lemmas.List.Filters.{length-filter_more}
-use Rattle.std.proofs.lemmas.List.Elements.{filter-append}
 use Rattle.std.proofs.lemmas.List.Sums.{AllPass-from_list_all, list_all-from_AllPass}
-use Rattle.std.proofs.lemmas.List.{append_assoc, length-map, map_push, length_push, drop_more, get_or-set_same, get_or-set_other, get_or-drop, get_or_past, take_more}
+use Rattle.std.proofs.lemmas.List.{append_assoc, drop_more, get_or-set_same, get_or-set_other, get_or-drop, get_or_past, take_more}
 use Rattle.std.proofs.lemmas.Bool.{eq-eqb, ne_eqb, cases_eq, cases_lt, or_right}
 use Rattle.model.specs.Families.{has}
 use Rattle.model.proofs.Meaning.{has_append}
@@ -18,20 +17,26 @@ use Rattle.store.specs.Calls.{Count}
 use Rattle.store.proofs.Counts.{gone_short, left_is}
 use Rattle.lists.specs.Lists.{marked, Written}
 
--- what a test keeps of 0, 1, .. below w
-range_more : (w k : ℕ) → range_with_len k (w + 1) ≡ range_with_len k w ++ ((k + w) ∷ [])
-range_more zero k = ap (λ (n : ℕ). n ∷ []) (let e : k ≡ k + 0 = omega arith in e)
-range_more (suc w) k =
-    ap (range_with_len k) (let e : suc w + 1 ≡ suc (w + 1) = omega arith in e)
-    ∙ ap (λ (ns : List ℕ). k ∷ ns) (range_more w (k + 1) ∙ ap (λ (n : ℕ). range_with_len (k + 1) w ++ (n ∷ [])) (let e : k + 1 + w ≡ k + suc w = omega arith in e))
+pub ascending_more : (w : ℕ) (t : ℕ → Bool) → ascending (w + 1) t ≡ ascending w t ++ cond (t w) (w ∷ []) []
+ascending_more w t = ap (λ (n : ℕ). ascending n t) (add-one w)
 
-pub filter_range : (w : ℕ) (t : ℕ → Bool) → filter t (range_with_len 0 w) ≡ ascending w t
-filter_range zero t = refl
-filter_range (suc w) t =
-    ap (λ (n : ℕ). filter t (range_with_len 0 n)) (let e : suc w ≡ w + 1 = omega arith in e)
-    ∙ ap (filter t) (range_more w 0 ∙ ap (λ (n : ℕ). range_with_len 0 w ++ (n ∷ [])) (let e : 0 + w ≡ w = omega arith in e))
-    ∙ filter-append t (range_with_len 0 w) (w ∷ [])
-    ∙ ap (λ (xs : List ℕ). xs ++ cond (t w) (w ∷ []) []) (filter_range w t)
+pub ascending_hit : (w : ℕ) (t : ℕ → Bool) → t w ≡ true → ascending (w + 1) t ≡ ascending w t ++ (w ∷ [])
+ascending_hit w t e = ascending_more w t ∙ ap (λ (b : Bool). ascending w t ++ cond b (w ∷ []) []) e
+
+append_none : (xs : List ℕ) → xs ++ [] ≡ xs
+append_none [] = refl
+append_none (x ∷ xs) = ap (λ (ys : List ℕ). x ∷ ys) (append_none xs)
+
+pub ascending_miss : (w : ℕ) (t : ℕ → Bool) → t w ≡ false → ascending (w + 1) t ≡ ascending w t
+ascending_miss w t e = ascending_more w t ∙ ap (λ (b : Bool). ascending w t ++ cond b (w ∷ []) []) e ∙ append_none (ascending w t)
+
+pub ascending_grows : (t : ℕ → Bool) (v w : ℕ) → v ≤ w → length (ascending v t) ≤ length (ascending w t)
+ascending_grows t v zero h = let e : v ≡ 0 = omega arith in omega (arith, ap (λ (n : ℕ). length (ascending n t)) e)
+ascending_grows t v (suc w) h =
+    ⊎_elim {C = length (ascending v t) ≤ length (ascending (suc w) t)}
+    (λ (e : v ≡ suc w). omega (arith, ap (λ (n : ℕ). length (ascending n t)) e))
+    (λ (ne : v ≡ suc w → ⊥). let i = ascending_grows t v w (omega arith) in let j = length-append (ascending w t) (cond (t w) (w ∷ []) []) in omega arith)
+    (cases_eq v (suc w))
 
 set_at : (xs : List ℕ) (y v : ℕ) (ys : List ℕ) → set (xs ++ (y ∷ ys)) (length xs) v ≡ xs ++ (v ∷ ys)
 set_at [] y v ys = refl
@@ -44,42 +49,6 @@ set_front xs list k v e h =
     ∙ ap (λ (n : ℕ). set (xs ++ (get_or list k 0 ∷ drop (k + 1) list)) n v) e
     ∙ set_at xs (get_or list k 0) v (drop (k + 1) list)
     ∙ sym (append_assoc xs (v ∷ []) (drop (k + 1) list))
-
-seconds : (n : ℕ) (xs : List ℕ) → map (λ p. p.1) (enumerate_from n xs) ≡ xs
-seconds n [] = refl
-seconds n (x ∷ xs) = ap (λ (ys : List ℕ). x ∷ ys) (seconds (n + 1) xs)
-
-all_same : (ps : List (ℕ × ℕ)) → map (λ p. p) ps ≡ ps
-all_same [] = refl
-all_same (p ∷ ps) = ap (λ (qs : List (ℕ × ℕ)). p ∷ qs) (all_same ps)
-
--- a turn of a loop over the marked places, each with its number
-module _ (row : List Bool) (w : ℕ) where
-  abbrev pub places : List ℕ
-  places = filter (λ q. get_or row q false) (range_with_len 0 w)
-
-  places_marked : places ≡ marked row w
-  places_marked = filter_range w (λ q. get_or row q false)
-
-  pub turn_at : (i : ℕ) (x : ℕ × ℕ) → (i < length (enumerate_from 0 places)) × (x ≡ get_or (enumerate_from 0 places) i x) → (x.0 ≡ i) × (i < length (marked row w))
-  turn_at i x h =
-      let l : i < length places = omega (arith, h.0, length-enumerate_from 0 places) in
-      let e = ap (λ (p : ℕ × ℕ). p.0) (h.1 ∙ get_or-enumerate_from 0 places i x l) in
-      (e ∙ (let z : 0 + i ≡ i = omega arith in z), omega (arith, l, ap length places_marked))
-
-  pub turns_end : (seen : List (ℕ × ℕ)) (list now : List ℕ) → map (λ p. p) seen ≡ enumerate_from 0 places → now ≡ map (λ p. p.1) seen ++ drop (length seen) list → now ≡ marked row w ++ drop (length (marked row w)) list
-  turns_end seen list now e is =
-      let whole : map (λ (p : ℕ × ℕ). p.1) seen ≡ marked row w = ap (map (λ (p : ℕ × ℕ). p.1)) (sym (all_same seen) ∙ e) ∙ seconds 0 places ∙ places_marked in
-      is ∙ ap₂ {C = List ℕ} (λ (ys : List ℕ) (n : ℕ). ys ++ drop n list) whole (sym (length-map seen (λ (p : ℕ × ℕ). p.1)) ∙ ap length whole)
-
--- one place more at the front of a list
-pub put_turn : (seen : List (ℕ × ℕ)) (list now : List ℕ) (x : ℕ × ℕ) → now ≡ map (λ p. p.1) seen ++ drop (length seen) list → x.0 ≡ length seen → length seen < length list
-    → set now x.0 x.1 ≡ map (λ p. p.1) (seen ++ (x ∷ [])) ++ drop (length (seen ++ (x ∷ []))) list
-put_turn seen list now x is at l =
-    let xs = map (λ (p : ℕ × ℕ). p.1) seen in
-    ap₂ {C = List ℕ} (λ (ys : List ℕ) (k : ℕ). set ys k x.1) is at
-    ∙ set_front xs list (length seen) x.1 (sym (length-map seen (λ (p : ℕ × ℕ). p.1))) l
-    ∙ ap₂ {C = List ℕ} (λ (ys : List ℕ) (n : ℕ). ys ++ drop n list) (sym (map_push (λ (p : ℕ × ℕ). p.1) seen x)) (sym (length_push seen x))
 
 pub with_false : (a : Bool) → (a || false) ≡ a
 with_false true = refl

@@ -6,7 +6,6 @@ ghost use Rattle.store.specs.Meaning.{domains};
 ghost use Rattle.lists.specs.Lists.{Marks, marked, Written, alike_at, alike};
 
 use model::bounds::{GATES, WIDTH};
-use std::array;
 use store::Store;
 
 /// For each position, whether it is marked.
@@ -18,7 +17,10 @@ fn count_marked(row: &Row, w: u16) -> usize
     requires { w ≤ most_width }
     ensures { result ≡ length (filter (λ mark. mark) (take w row.now)) }
 {
-    row[..usize::from(w)].iter().filter(|mark| **mark).count()
+    row[..usize::from(w)]
+        .iter()
+        .map(|&mark| usize::from(mark))
+        .sum()
 }
 
 /// Writes the marked places, ascending, at the front of a list that has room for them.
@@ -27,8 +29,13 @@ fn put_marked(row: &Row, w: u16, list: &mut [u16])
     requires room { length (marked row.now w) ≤ length list.old }
     ensures { list.new ≡ marked row.now w ++ drop (length (marked row.now w)) list.old }
 {
-    for (k, p) in (0..w).filter(|&p| row[usize::from(p)]).enumerate() {
-        list[k] = p;
+    // kept: a loop with a count of its own: by `(0..w).filter(..)` a show or changes of 256 positions cost up to 1.6 times as much, by `(0..w).zip(row.iter())` up to 1.4.
+    let mut k: usize = 0;
+    for p in 0..w {
+        if row[usize::from(p)] {
+            list[k] = p;
+            k += 1;
+        }
     }
 }
 
@@ -56,19 +63,16 @@ fn gone_length<S: Store>(store: &S, g: usize) -> u16
     width - store.count(g).unwrap_or(width)
 }
 
-/// The same for a gate below `gates`. For another the store is not asked: a small plan is not to cost as much as a large one.
-fn gone_length_below<S: Store>(store: &S, gates: usize, g: usize) -> u16
-    ensures { g < gates → result ≡ length ((S.mean store.now).gone g) }
-{
-    if g < gates { gone_length(store, g) } else { 0 }
-}
-
 /// How many positions have left each gate.
 pub fn gone_lengths<S: Store>(store: &S) -> [u16; GATES]
     ensures { (g : ℕ) → g < (S.mean store.now).gates → slice_index result g ≡ length ((S.mean store.now).gone g) }
 {
-    let gates = store.gates();
-    array::from_fn(|g| gone_length_below(store, gates, g))
+    let mut row = [0; GATES];
+    // of the gates that there are alone: a small plan is not to cost as much as a large one
+    for (g, length) in row[..store.gates()].iter_mut().enumerate() {
+        *length = gone_length(store, g);
+    }
+    row
 }
 
 // kept: that the gate is there stands in the requires of these three: a value that bears it out would hold the store's loan.

@@ -1,7 +1,6 @@
-use Rattle.std.proofs.Common.{◌≡◌, ◌++◌, length, drop, map}
+use Rattle.std.proofs.Common.{◌≡◌, ◌++◌, length, drop}
+use Rattle.lists.specs.Lists.{marked}
 use Rattle.lists.proofs.rows.put_marked.Given as goal
 
-abbrev pub invariant-loop-k : goal.invariant-loop-k
-invariant-loop-k l =
-    (goal.iterator-loop-k).can_next l.k-iterator × (goal.iterator-loop-k).is_finite l.k-iterator
-    × (l.list ≡ map (λ x. x.1) l.yielded ++ drop (length l.yielded) l.initial.list)
+abbrev pub invariant-loop-p : goal.invariant-loop-p
+invariant-loop-p l = (l.k ≡ length (marked l.row l.p)) × (l.list ≡ marked l.row l.p ++ drop l.k l.initial.list)
