@@ -73,6 +73,9 @@ impl Memory {
         ensures ends { MatchOption (slice_index_or self.old.saved mark None) (Right (S.mean store.now) self.new.ends) (λ ends. self.new.ends ≡ ends) }
         ensures saved { self.new.saved ≡ self.old.saved }
     {
-        self.ends = self.saved[mark].unwrap_or_else(|| Ends::of(store));
+        match &self.saved[mark] {
+            Some(ends) => self.ends = *ends,
+            None => self.ends = Ends::of(store),
+        }
     }
 }
