@@ -1,11 +1,11 @@
 // What is remembered of the domains.
 use model::bounds::{GATES, MARKS};
 
-/// The lowest and the highest open position of a gate.
+/// The lowest and the highest open position of a gate. A byte holds a position, and makes the copies of a table short.
 #[derive(Clone, Copy, Debug, PartialEq, Eq, Hash)]
 pub struct Span {
-    pub lowest: u16,
-    pub highest: u16,
+    pub lowest: u8,
+    pub highest: u8,
 }
 
 /// The span of each gate, none where nothing is open.
