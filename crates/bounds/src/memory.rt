@@ -9,7 +9,7 @@ use model::bounds::GATES;
 use store::Store;
 
 impl Ends {
-    /// Each gate's span, as the store tells it.
+    /// Each gate's span, as the store tells it. Cold: a restore seldom asks, and is the shorter without it.
     #[cold]
     pub fn of<S: Store>(store: &S) -> Ends
         ensures { Right (S.mean store.now) result }

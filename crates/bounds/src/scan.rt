@@ -7,20 +7,6 @@ ghost use Rattle.bounds.specs.Ends.{SpanOf, LastOpen, Covers};
 use crate::ends::Span;
 use store::Store;
 
-impl Span {
-    /// The span from one position to another.
-    pub fn new(lowest: u16, highest: u16) -> Span
-        requires low { lowest < most_width }
-        requires high { highest < most_width }
-        ensures { result ≡ record { lowest = lowest; highest = highest } }
-    {
-        Span {
-            lowest: lowest as u8,
-            highest: highest as u8,
-        }
-    }
-}
-
 /// The gate's span, as the store tells it.
 pub fn span_of<S: Store>(store: &S, g: usize) -> Option<Span>
     ensures { g < (S.mean store.now).gates → SpanOf (S.mean store.now) g result }
