@@ -96,12 +96,12 @@ impl<S: Store> Store for Bounds<S> {
 
     fn lowest(&self, g: usize) -> Result<Option<u16>, Refusal> {
         self.check_gate(g)?;
-        Ok(self.memory.ends.spans[g].map(|s| s.lowest))
+        Ok(self.memory.ends.spans[g].map(|s| u16::from(s.lowest)))
     }
 
     fn highest(&self, g: usize) -> Result<Option<u16>, Refusal> {
         self.check_gate(g)?;
-        Ok(self.memory.ends.spans[g].map(|s| s.highest))
+        Ok(self.memory.ends.spans[g].map(|s| u16::from(s.highest)))
     }
 
     fn gone(&self, g: usize, k: usize) -> Result<Option<u16>, Refusal> {

@@ -1,6 +1,6 @@
 // The memory of the ends, as it is written, begun anew, saved and taken back.
-ghost use Rattle.std.specs.Prelude.{◌≡◌, ◌≢◌, ℕ, ◌<◌, ◌-◌, replicate, MatchOption, slice_index_or};
-ghost use Rattle.model.specs.Bounds.{most_gates, most_marks};
+ghost use Rattle.std.specs.Prelude.{◌≡◌, ◌≢◌, ℕ, ◌<◌, ◌≤◌, ◌-◌, replicate, MatchOption, slice_index_or};
+ghost use Rattle.model.specs.Bounds.{most_gates, most_width, most_marks};
 ghost use Rattle.bounds.specs.Ends.{SpanOf, Covers, SameBut, Right};
 
 use crate::ends::{Ends, Memory, Span};
@@ -9,7 +9,8 @@ use model::bounds::GATES;
 use store::Store;
 
 impl Ends {
-    /// Each gate's span, as the store tells it.
+    /// Each gate's span, as the store tells it. Cold: a restore seldom asks, and is the shorter without it.
+    #[cold]
     pub fn of<S: Store>(store: &S) -> Ends
         ensures { Right (S.mean store.now) result }
     {
@@ -25,13 +26,11 @@ impl Ends {
 impl Memory {
     /// All w positions of each gate are open.
     pub fn reset(&mut self, w: u16)
+        requires { w ≤ most_width }
         ensures ends { self.new.ends.spans ≡ replicate most_gates (Some (record { lowest = 0; highest = w - 1 })) }
         ensures saved { self.new.saved ≡ self.old.saved }
     {
-        let whole = Span {
-            lowest: 0,
-            highest: w.saturating_sub(1),
-        };
+        let whole = Span::new(0, w.saturating_sub(1));
         self.ends.spans = [Some(whole); GATES];
     }
 
@@ -73,6 +72,9 @@ impl Memory {
         ensures ends { MatchOption (slice_index_or self.old.saved mark None) (Right (S.mean store.now) self.new.ends) (λ ends. self.new.ends ≡ ends) }
         ensures saved { self.new.saved ≡ self.old.saved }
     {
-        self.ends = self.saved[mark].unwrap_or_else(|| Ends::of(store));
+        match &self.saved[mark] {
+            Some(ends) => self.ends = *ends,
+            None => self.ends = Ends::of(store),
+        }
     }
 }
