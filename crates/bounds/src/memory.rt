@@ -72,6 +72,7 @@ impl Memory {
         ensures ends { MatchOption (slice_index_or self.old.saved mark None) (Right (S.mean store.now) self.new.ends) (λ ends. self.new.ends ≡ ends) }
         ensures saved { self.new.saved ≡ self.old.saved }
     {
+        // kept: with unwrap_or_else the ends are copied once more, a sixth of what a save and a restore cost in a pile
         match &self.saved[mark] {
             Some(ends) => self.ends = *ends,
             None => self.ends = Ends::of(store),
