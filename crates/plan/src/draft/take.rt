@@ -32,7 +32,9 @@ pub(crate) fn judge<T: Drop>(
     if misplaced {
         return Err(field.fault(Refusal::Misplaced));
     }
-    let item = given.ok_or(field.fault(Refusal::OutOfRange))?;
+    let Some(item) = given else {
+        return Err(field.fault(Refusal::OutOfRange));
+    };
     if full {
         return Err(field.fault(Refusal::TooManyRules));
     }

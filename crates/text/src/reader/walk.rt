@@ -28,10 +28,12 @@ fn field_at<'a, K: Kinds>(text: &'a [u8], place: usize) -> Result<Field<'a, K>, 
     ensures value { seen result ≡ field_at K.made text.now place }
     ensures inside { next_at (seen result) place ≤ length text.now }
 {
-    let (tag, len) = prefix(text, place).ok_or(Fault {
-        refusal: Refusal::Truncated,
-        place,
-    })?;
+    let Some((tag, len)) = prefix(text, place) else {
+        return Err(Fault {
+            refusal: Refusal::Truncated,
+            place,
+        });
+    };
     let start = place + PREFIX;
     let kind = K::of(tag, len, text.len() - start).map_err(|refusal| Fault { refusal, place })?;
     let payload = &text[start..start + usize::from(len)];
