@@ -32,6 +32,7 @@ pub(crate) fn judge<T: Drop>(
     if misplaced {
         return Err(field.fault(Refusal::Misplaced));
     }
+    // kept: a rule of the project: a field that says nothing is left by `let .. else`, with number and place.
     let Some(item) = given else {
         return Err(field.fault(Refusal::OutOfRange));
     };

@@ -28,6 +28,7 @@ fn field_at<'a, K: Kinds>(text: &'a [u8], place: usize) -> Result<Field<'a, K>, 
     ensures value { seen result ≡ field_at K.made text.now place }
     ensures inside { next_at (seen result) place ≤ length text.now }
 {
+    // kept: a rule of the project: a field that is not there is left by `let .. else`, with number and place.
     let Some((tag, len)) = prefix(text, place) else {
         return Err(Fault {
             refusal: Refusal::Truncated,
