@@ -29,23 +29,30 @@ pub struct ToldPlan<'a>(pub &'a Case<'a>);
 
 impl fmt::Display for ToldPlan<'_> {
     fn fmt<W: fmt::Write>(&self, f: &mut fmt::Formatter<W>) -> fmt::Result {
-        let Case { name, input } = self.0;
-        if !self.0.asks_for_plan() {
-            return Ok(());
+        if self.0.asks_for_plan() {
+            write_plan(self.0, f)
+        } else {
+            Ok(())
         }
-        let Ok(loaded) = read_plan(input.as_slice()) else {
-            return Ok(());
-        };
-        writeln!(f, "{name}: {} bytes", loaded.read)?;
-        let plan = &loaded.plan;
-        for gate in 0..plan.gates() {
-            writeln!(f, "{name}: gate {gate}:{}", Starts { plan, gate })?;
-        }
-        for (number, rule) in plan.rules().iter().enumerate() {
-            writeln!(f, "{name}: rule {number}: {}", ToldRule(rule))?;
-        }
-        Ok(())
     }
+}
+
+/// Writes the lines of the plan. A function of its own, not inlined: it has room for a whole plan, which most cases do not ask for.
+#[inline(never)]
+fn write_plan<W: fmt::Write>(case: &Case<'_>, f: &mut fmt::Formatter<W>) -> fmt::Result {
+    let Case { name, input } = case;
+    let Ok(loaded) = read_plan(input.as_slice()) else {
+        return Ok(());
+    };
+    writeln!(f, "{name}: {} bytes", loaded.read)?;
+    let plan = &loaded.plan;
+    for gate in 0..plan.gates() {
+        writeln!(f, "{name}: gate {gate}:{}", Starts { plan, gate })?;
+    }
+    for (number, rule) in plan.rules().iter().enumerate() {
+        writeln!(f, "{name}: rule {number}: {}", ToldRule(rule))?;
+    }
+    Ok(())
 }
 
 /// The positions that a gate starts with, as runs.
