@@ -1,7 +1,8 @@
 -- The bytes of parts, part by part.
-use Rattle.std.proofs.Common.{rules, ◌≡◌, ◌<◌, ◌+◌, ℕ, zero, suc, List, [], ◌∷◌, ◌++◌, length, take, drop, get_or, Result, Ok, Err, IsOkAnd, refl, sym, ◌∙◌, ap}
-use Rattle.std.proofs.lemmas.List.{append_assoc, append-nil, drop_more, take-append-drop}
-use Rattle.std.specs.List.{repeat}
+use Rattle.std.proofs.Common.{rules, arith, ◌≤◌, ◌-◌, length-drop, ◌≡◌, ◌<◌, ◌+◌, ℕ, zero, suc, List, [], ◌∷◌, ◌++◌, length, take, drop, get_or, Result, Ok, Err, IsOkAnd, refl, sym, ◌∙◌, ap}
+use Rattle.std.proofs.lemmas.List.{drop-append-le, append_assoc, append-nil, drop_more, take-append-drop}
+use Rattle.std.specs.List.{repeat, slice_range}
+use Rattle.std.proofs.Math.Seq.{take-append_seam}
 use Rattle.cases.specs.declared.error.CaseError.{CaseError}
 use Rattle.cases.specs.Hexadecimal.{part_bytes, joined, parts_bytes}
 
@@ -55,14 +56,33 @@ repeat_last once zero = sym (append-nil once)
 repeat_last once (suc n) = append_assoc once (repeat n once) once ∙ ap (λ xs. once ++ xs) (repeat_last once n)
 
 -- once more behind n times
-pub once_more : (bs so_far once : List ℕ) (n : ℕ) → so_far ≡ bs ++ repeat n once → so_far ++ once ≡ bs ++ repeat (n + 1) once
+once_more : (bs so_far once : List ℕ) (n : ℕ) → so_far ≡ bs ++ repeat n once → so_far ++ once ≡ bs ++ repeat (n + 1) once
 once_more bs so_far once n h = ap (λ xs. xs ++ once) h ∙ append_assoc bs (repeat n once) once ∙ ap (λ xs. bs ++ xs) (repeat_last once n) ∙ ap (λ k. bs ++ repeat k once) (one_more n)
+
+-- what stood behind a place stands there still when more has come
+same_part : (bs xs : List ℕ) (start : ℕ) → start ≤ length bs → slice_range (bs ++ xs) start (length bs) ≡ drop start bs
+same_part bs xs start l =
+    ap (take (length bs - start)) (drop-append-le start bs xs l)
+    ∙ ap (λ k. take k (drop start bs ++ xs)) (sym (length-drop start bs))
+    ∙ take-append_seam (drop start bs) xs
+
+-- what stands from a place on, once more behind n times
+pub again : (bs so_far : List ℕ) (start n : ℕ) → start ≤ length bs → so_far ≡ bs ++ repeat n (drop start bs)
+    → so_far ++ slice_range so_far start (length bs) ≡ bs ++ repeat (n + 1) (drop start bs)
+again bs so_far start n l h =
+    ap (λ xs. so_far ++ slice_range xs start (length bs)) h
+    ∙ ap (λ xs. so_far ++ xs) (same_part bs (repeat n (drop start bs)) start l)
+    ∙ once_more bs so_far (drop start bs) n h
 
 repeat_none : (n : ℕ) → repeat {A = ℕ} n [] ≡ []
 repeat_none zero = refl
 repeat_none (suc n) = repeat_none n
 
 -- nothing, however often, adds nothing
-pub nothing_added : (bs once : List ℕ) (n : ℕ) → length once ≡ 0 → bs ≡ bs ++ repeat n once
+nothing_added : (bs once : List ℕ) (n : ℕ) → length once ≡ 0 → bs ≡ bs ++ repeat n once
 nothing_added bs [] n h = sym (ap (λ xs. bs ++ xs) (repeat_none n) ∙ append-nil bs)
 nothing_added bs (x ∷ xs) n h = search (h)
+
+-- where nothing stands from a place on, it adds nothing, however often
+pub nothing_again : (bs : List ℕ) (start n : ℕ) → start ≡ length bs → bs ≡ bs ++ repeat n (drop start bs)
+nothing_again bs start n e = nothing_added bs (drop start bs) n (length-drop start bs ∙ (let z : length bs - start ≡ 0 = omega arith in z))

@@ -1,5 +1,5 @@
 // Bytes from hexadecimal, in parts that may be repeated, as in `cafe ab*3`.
-ghost use Rattle.std.specs.Prelude.{◌≡◌, ◌++◌, ◌⊎◌, IfOk, IfErr, OnOk, IsOkAnd};
+ghost use Rattle.std.specs.Prelude.{◌≤◌, length, drop, ◌≡◌, ◌++◌, ◌⊎◌, IfOk, IfErr, OnOk, IsOkAnd};
 ghost use Rattle.std.specs.List.{repeat, list_any};
 ghost use Rattle.std.specs.Char.{is_ascii_uppercase};
 ghost use Rattle.cases.specs.Hexadecimal.{digits_of, times_of, digit_bytes, part_bytes, bytes_of};
@@ -26,27 +26,32 @@ fn has_capital(digits: &str) -> bool
     digits.bytes().any(|b| b.is_ascii_uppercase())
 }
 
-/// The bytes that digits write. Capital letters are no digits here.
-fn decode_digits(heap: Global, digits: &str) -> Result<Vec<u8>, CaseError>
-    ensures ok { IfOk result (λ bytes. digit_bytes digits.now ≡ Ok bytes.items) }
+/// Adds the bytes that digits write, in their place at once. Capital letters are no digits here.
+fn add_digits(bytes: &mut Vec<u8>, digits: &str) -> Result<(), CaseError>
+    ensures ok { OnOk result (IsOkAnd (digit_bytes digits.now) (λ b. bytes.new.items ≡ bytes.old.items ++ b)) }
     ensures err { IfErr result (λ e. (e ≡ OutOfMemory) ⊎ (digit_bytes digits.now ≡ Err e)) }
 {
     if has_capital(digits) {
         return Err(CaseError::NotHexadecimal);
     }
-    Ok(hex::decode(heap, digits)?)
+    let start = bytes.len();
+    bytes.resize(start + digits.len() / 2, 0)?;
+    hex::decode_to_slice(digits, &mut bytes[start..])?;
+    Ok(())
 }
 
-/// Adds the same bytes so many times. They are not gathered beside the others first, so that a long input is held once.
-#[tactic(auto, using(crate::proofs::Parts::nothing_added, crate::proofs::Parts::once_more))]
-fn add_times(bytes: &mut Vec<u8>, once: &[u8], times: usize) -> Result<(), AllocError>
-    ensures { OnOk result (bytes.new.items ≡ bytes.old.items ++ repeat times once.now) }
+/// Adds what stands from a place on so many times more.
+#[tactic(auto, using(crate::proofs::Parts::nothing_again, crate::proofs::Parts::again))]
+fn add_again(bytes: &mut Vec<u8>, start: usize, more: usize) -> Result<(), AllocError>
+    requires { start ≤ length bytes.old.items }
+    ensures { OnOk result (bytes.new.items ≡ bytes.old.items ++ repeat more (drop start bytes.old.items)) }
 {
-    if once.is_empty() {
+    let end = bytes.len();
+    if start == end {
         return Ok(());
     }
-    for _ in 0..times {
-        bytes.extend_from_slice(once)?;
+    for _ in 0..more {
+        bytes.extend_from_within(start..end)?;
     }
     Ok(())
 }
@@ -60,8 +65,9 @@ fn add_part(bytes: &mut Vec<u8>, part: &str) -> Result<(), CaseError>
     if times == 0 {
         return Ok(());
     }
-    let once = decode_digits(*bytes.allocator(), digits)?;
-    add_times(bytes, once.as_slice(), times)?;
+    let start = bytes.len();
+    add_digits(bytes, digits)?;
+    add_again(bytes, start, times - 1)?;
     Ok(())
 }
 
