@@ -29,11 +29,12 @@ fn put_marked(row: &Row, w: u16, list: &mut [u16])
     requires room { length (marked row.now w) ≤ length list.old }
     ensures { list.new ≡ marked row.now w ++ drop (length (marked row.now w)) list.old }
 {
-    // kept: a loop with a count of its own: by `(0..w).filter(..)` a show or changes of 256 positions cost up to 1.6 times as much, by `(0..w).zip(row.iter())` up to 1.4.
+    // kept: a count of its own: by `(0..w).filter(..)`, enumerated, a show or changes of 256 positions took up to 1.6 times the instructions
     let mut k: usize = 0;
-    for p in 0..w {
-        if row[usize::from(p)] {
-            list[k] = p;
+    for (p, &marked) in row[..usize::from(w)].iter().enumerate() {
+        if marked {
+            // kept: `as`, since p is below w; `try_from` would add a way out that does not come
+            list[k] = p as u16;
             k += 1;
         }
     }
@@ -114,8 +115,8 @@ pub fn open_row<S: Store>(store: &S, g: usize) -> Row
     ensures { Marks result (S.mean store.now).width (domains (S.mean store.now) g) }
 {
     let mut row = [false; WIDTH];
-    // kept: `(0..store.width()).zip(row.iter_mut())` tells a proof nothing of the row, `row[..].iter_mut().enumerate()` has to narrow p by `as`,
-    // and array::from_fn would ask the store for all WIDTH positions, not those that there are.
+    // kept: `(0..store.width()).zip(row.iter_mut())` tells a proof nothing of the row, and array::from_fn would ask the store for all WIDTH positions,
+    // not those that there are. `row[..].iter_mut().enumerate()`, which narrows p by `as`, is still to be tried.
     for p in 0..store.width() {
         row[usize::from(p)] = store.is_open(g, p);
     }
